@@ -1,0 +1,24 @@
+use crate::Lane;
+
+/// What a call of the exchange board did.
+#[derive(Clone, Copy, Debug, PartialEq, Eq, Hash)]
+pub enum EntryKind {
+    /// Main put the commit of this number into the mailbox.
+    Publish { number: u32 },
+    /// The compositor took the commit of this number from the mailbox, or found nothing to take.
+    Pull { number: Option<u32> },
+    /// The compositor sent so many events.
+    Send { count: u32 },
+    /// Main took so many events.
+    Drain { count: u32 },
+}
+
+/// One entry of the journal of the exchange board.
+#[derive(Clone, Copy, Debug, PartialEq, Eq, Hash)]
+pub struct Entry {
+    /// Whose call it was.
+    pub lane: Lane,
+    /// How many steps of the lane had been made, this one included.
+    pub upto: u32,
+    pub kind: EntryKind,
+}

@@ -1,0 +1,13 @@
+/// One of the two threads. Main edits its tree and commits it; the compositor pulls commits and draws frames.
+#[derive(Clone, Copy, Debug, PartialEq, Eq, Hash)]
+pub enum Lane {
+    Main,
+    Compositor,
+}
+
+/// One of the compositor's two trees: the pending tree waits for its activation, the active tree is drawn.
+#[derive(Clone, Copy, Debug, PartialEq, Eq, Hash)]
+pub enum Tree {
+    Pending,
+    Active,
+}

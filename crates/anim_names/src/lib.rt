@@ -1,0 +1,22 @@
+//! The names that every layer speaks: which element, model, group or timeline is meant, which lane made a
+//! step, what happened to a model, and what an entry of the lanes' journal says.
+//!
+//! Plain values alone, all `Copy`. A contract sees an id as its number.
+#![tactic(auto)]
+
+pub mod entry;
+pub mod event;
+pub mod id;
+pub mod lane;
+pub mod limit;
+pub mod property;
+
+pub use entry::{Entry, EntryKind};
+pub use event::AnimEvent;
+pub use id::{ElementId, GroupId, ModelId, TimelineId};
+pub use lane::{Lane, Tree};
+pub use limit::LimitName;
+pub use property::Property;
+
+#[cfg(test)]
+mod tests;

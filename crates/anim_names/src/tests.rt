@@ -1,0 +1,35 @@
+use super::*;
+
+#[test]
+fn an_id_is_its_number(rt: HostRuntime) {
+    let id = ModelId(7);
+    let again = id;
+    assert_eq!(rt; id, again);
+    assert_ne!(rt; id, ModelId(8));
+    assert_eq!(rt; id.0, 7);
+}
+
+#[test]
+fn names_compare_by_what_they_say(rt: HostRuntime) {
+    let started = AnimEvent::Started {
+        model: ModelId(1),
+        group: GroupId(2),
+        at: 3,
+        start: -4,
+    };
+    let finished = AnimEvent::Finished {
+        model: ModelId(1),
+        at: 3,
+    };
+    assert_ne!(rt; started, finished);
+    let entry = Entry {
+        lane: Lane::Main,
+        upto: 1,
+        kind: EntryKind::Publish { number: 1 },
+    };
+    let other = Entry {
+        lane: Lane::Compositor,
+        ..entry
+    };
+    assert_ne!(rt; entry, other);
+}

@@ -1,0 +1,24 @@
+ghost use Rattle.std.specs.Prelude.{◌≡◌, ℕ, ◌<◌, ◌≤◌, List, [], length, take, Option, IfOk, IfSome, OnErr, MatchResult};
+ghost use Rattle.edge_io.specs.Edges.{HasRisen, Gave};
+
+use crate::Failed;
+
+/// Where bytes come from.
+///
+/// `left` is the bytes that are left, where the source tells them, and `faults` counts its faults: the count
+/// never falls.
+pub trait Source {
+    ghost left: { Self → Option (List ℕ) };
+
+    ghost faults: { Self → ℕ };
+
+    /// Reads the next bytes into the front of `into`, and says how many they are: 0 at the end alone.
+    fn read(&mut self, into: &mut [u8]) -> Result<usize, Failed>
+        requires { 0 < length into.old }
+        ensures room { IfOk result (λ n. n ≤ length into.new) }
+        ensures given { IfOk result (λ n. Gave (left self.old) (left self.new) (take n into.new)) }
+        ensures end { IfOk result (λ n. n ≡ 0 → IfSome (left self.old) (λ bytes. bytes ≡ [])) }
+        ensures failed { OnErr result (HasRisen (faults self.old) (faults self.new)) }
+        ensures kept { OnErr result (Gave (left self.old) (left self.new) []) }
+        ensures never_falls { faults self.old ≤ faults self.new };
+}
