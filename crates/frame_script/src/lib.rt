@@ -1,0 +1,21 @@
+//! The text of a script: its lines, their fields and numbers, and what they say.
+//!
+//! [`read_script`] gives the script that the bytes spell, or the first line that is refused. Both are a
+//! function of the bytes, which `specs/Fades.antt` reads line by line.
+#![tactic(auto)]
+
+pub mod fade;
+pub mod fade_lines;
+pub mod fields;
+pub mod lines;
+pub mod numbers;
+pub mod place;
+pub mod read_fade;
+pub mod refusal;
+
+pub use fade::FadeScript;
+pub use fields::fields_of;
+pub use lines::split_line;
+pub use numbers::{integer_within, natural_within};
+pub use read_fade::{MOST_BYTES, read_script};
+pub use refusal::{Cause, ScriptFault};
