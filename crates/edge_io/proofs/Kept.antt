@@ -35,4 +35,5 @@ none_left (Some xs) (Some ys) None n into p q e end = absurd q
 none_left (Some xs) (Some ys) (Some zs) n into p q e end =
     sym p ∙ q ∙ ap (λ m. take m into ++ zs) e ∙ end
 
+-- all of them, for the tries of one read
 pub ruleset kept = (kept_at_first, kept_again, gave_none, gave_after, none_left)

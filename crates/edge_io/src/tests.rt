@@ -1,6 +1,8 @@
-ghost use Rattle.std.specs.Prelude.{◌≤◌, IfOk};
+ghost use Rattle.std.specs.Prelude.{◌≡◌, ◌<◌, ◌≤◌, length, Some, IfOk};
+ghost use Rattle.edge_io.specs.SteadySink.{told};
 
 use super::*;
+use std::alloc::{AllocError, Global};
 use std::io;
 use std::io::{ErrorKind, Read, Write};
 use std::test::Fail;
@@ -110,6 +112,24 @@ fn a_memory_sink_fails_where_its_room_is_full(rt: HostRuntime) -> Result<(), Fai
     }
     assert_eq!(rt; sink.taken().len(), room);
     assert_eq!(rt; sink.taken().last(), Some(&b'a'));
+    Ok(())
+}
+
+/// A sink with just the room for this text, after the text was written.
+fn written(alloc: Global, text: &[u8]) -> Result<SteadySink, AllocError>
+    requires { 0 < length text.now }
+    ensures { IfOk result (λ sink. told sink ≡ Some text.now) }
+{
+    let mut sink = SteadySink::new(alloc, text.len())?;
+    let Ok(_count) = sink.write(text) else {
+        unreachable!()
+    };
+    Ok(sink)
+}
+
+#[test]
+fn a_steady_sink_tells_a_text_that_fits(rt: HostRuntime) -> Result<(), Fail> {
+    assert_eq!(rt; written(rt.alloc(), b"abcd")?.taken(), b"abcd".as_slice());
     Ok(())
 }
 
