@@ -1,9 +1,13 @@
 -- What a source gives, what a sink takes, and when a count of faults rose.
-use Rattle.std.specs.Prelude.{◌≡◌, ℕ, ◌<◌, ◌≤◌, List, ◌++◌, Option, Some, None, ◌⊎◌}
+use Rattle.std.specs.Prelude.{◌≡◌, ℕ, ◌+◌, ◌<◌, ◌≤◌, min, List, ◌++◌, Option, Some, None, ◌⊎◌}
 
 -- the last value of a count of faults, which no run reaches
 abbrev pub last_count : ℕ
 last_count = 18446744073709551615
+
+-- one more, or the last value again
+abbrev pub next_count : ℕ → ℕ
+next_count n = min (n + 1) last_count
 
 -- The count of faults rose from old to new. At its last value a count can't rise any more, and is taken to.
 abbrev pub HasRisen : ℕ → ℕ → Type 0

@@ -5,10 +5,27 @@
 //! both can say what it wrote for what it read, and a fault of its answer is a fault of the outside.
 #![tactic(auto)]
 
+mod call;
+mod capacity;
 pub mod failed;
+pub mod memory_sink;
+pub mod memory_source;
 pub mod sink;
 pub mod source;
+pub mod std_sink;
+pub mod std_source;
+pub mod steady_sink;
+pub mod steady_source;
 
 pub use failed::Failed;
+pub use memory_sink::MemorySink;
+pub use memory_source::MemorySource;
 pub use sink::Sink;
 pub use source::Source;
+pub use std_sink::StdSink;
+pub use std_source::StdSource;
+pub use steady_sink::SteadySink;
+pub use steady_source::SteadySource;
+
+#[cfg(test)]
+mod tests;
