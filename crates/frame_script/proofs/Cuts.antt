@@ -1,5 +1,5 @@
 -- Where the first line of a text ends.
-use Rattle.std.proofs.Common.{◌≡◌, ℕ, suc, ◌+◌, ◌-◌, ◌<◌, ◌≤◌, Bool, true, false, cond, eqb, ltb, not, List, [], ◌∷◌, length, take, drop, refl, ap, sym, ◌∙◌, arith, inl, inr, Option, Some, None, min}
+use Rattle.std.proofs.Common.{◌≡◌, ℕ, ◌+◌, ◌-◌, ◌<◌, ◌≤◌, Bool, true, false, cond, eqb, not, List, [], ◌∷◌, length, take, drop, refl, ap, arith, inl, inr, min}
 use Rattle.std.specs.Prelude.{unwrap_or, position}
 use Rattle.std.specs.List.{onto_first, position_or_len}
 use Rattle.std.proofs.lemmas.Bool.{cases_lt, lt-ltb, le-ltb}
@@ -40,11 +40,11 @@ rest_is : (text : List ℕ) (n : ℕ) → take (length text - min (length text) 
 rest_is text n =
     elim (cases_lt n (length text)) [
       | inl lt ↦
-        let m : min (length text) n ≡ n = omega arith in
-        rw m (take_all (length text - n) (drop n text) (omega (arith, length-drop n text)))
+          let m : min (length text) n ≡ n = omega arith in
+          rw m (take_all (length text - n) (drop n text) (omega (arith, length-drop n text)))
       | inr ge ↦
-        let m : min (length text) n ≡ length text = omega arith in
-        rw (m, drop_all n text ge, drop_all (length text) text (omega arith)) (take_all (length text - length text) [] (omega arith))
+          let m : min (length text) n ≡ length text = omega arith in
+          rw (m, drop_all n text ge, drop_all (length text) text (omega arith)) (take_all (length text - length text) [] (omega arith))
     ]
 
 pub split_is : (text : List ℕ) (end after : ℕ) → 0 < length text → end ≡ feed text → after ≡ min (length text) (end + 1)

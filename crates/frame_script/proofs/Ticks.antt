@@ -1,8 +1,8 @@
 -- Reading one tick after the other, as a loop does.
-use Rattle.std.proofs.Common.{◌≡◌, ℕ, zero, suc, ◌+◌, ◌-◌, ◌<◌, ◌≤◌, List, [], ◌∷◌, ◌++◌, Option, Some, None, refl, ap, sym, ◌∙◌, append_assoc, arith}
+use Rattle.std.proofs.Common.{◌≡◌, ℕ, suc, ◌+◌, ◌-◌, ◌<◌, ◌≤◌, List, [], ◌∷◌, ◌++◌, Some, None, refl, ap, sym, ◌∙◌, append_assoc, arith}
 use Rattle.std.proofs.lemmas.List.{append-nil}
 use Rattle.frame_script.specs.Refusals.{Left}
-use Rattle.frame_script.specs.Fades.{NeverFall, latest, tick_at, ticks_from, with_front, onto_ticks}
+use Rattle.frame_script.specs.Fades.{NeverFall, latest, tick_at, ticks_from, with_front}
 
 pub goes_on : (front : List ℕ) (most i last time : ℕ) (left after : Left) (total : List ℕ × Left) → i < most → Some (time, after) ≡ tick_at last left
     → with_front front (ticks_from (most - i) last left) ≡ total → with_front (front ++ time ∷ []) (ticks_from (most - (i + 1)) time after) ≡ total
@@ -11,7 +11,7 @@ goes_on front most i last time left after total lt found so_far =
     let room : most - i ≡ suc (most - (i + 1)) = omega arith in
     let more : List ℕ × Left = ticks_from (most - (i + 1)) time after in
     let one : with_front front (ticks_from (most - i) last left) ≡ with_front (front ++ time ∷ []) more =
-      rw (room, ← found) (ap (λ (ts : List ℕ). (ts, more.1)) (sym (append_assoc front (time ∷ []) more.0))) in
+    rw (room, ← found) (ap (λ (ts : List ℕ). (ts, more.1)) (sym (append_assoc front (time ∷ []) more.0))) in
     sym one ∙ so_far
 
 pub stops : (front : List ℕ) (most i last : ℕ) (left : Left) (total : List ℕ × Left) → i < most → None ≡ tick_at last left
@@ -20,7 +20,7 @@ unfolding ticks_from
 stops front most i last left total lt found so_far =
     let room : most - i ≡ suc (most - (i + 1)) = omega arith in
     let one : with_front front (ticks_from (most - i) last left) ≡ (front, left) =
-      rw (room, ← found) (ap (λ (ts : List ℕ). (ts, left)) (append-nil front)) in
+    rw (room, ← found) (ap (λ (ts : List ℕ). (ts, left)) (append-nil front)) in
     sym so_far ∙ one
 
 pub is_full : (front : List ℕ) (most i last : ℕ) (left : Left) (total : List ℕ × Left) → most ≤ i
@@ -29,7 +29,7 @@ unfolding ticks_from
 is_full front most i last left total le so_far =
     let room : most - i ≡ 0 = omega arith in
     let one : with_front front (ticks_from (most - i) last left) ≡ (front, left) =
-      rw room (ap (λ (ts : List ℕ). (ts, left)) (append-nil front)) in
+    rw room (ap (λ (ts : List ℕ). (ts, left)) (append-nil front)) in
     sym so_far ∙ one
 
 -- the last of these times, or the one before them

@@ -8,7 +8,9 @@ use crate::fields::is;
 use crate::numbers::natural_within;
 
 const MOST_OPAQUE: u64 = 1_000_000;
+
 const LONGEST: u64 = 1 << 36;
+
 const LATEST: u64 = 1 << 50;
 
 /// The element's opacity, as `element 1 BASE none`.
@@ -17,9 +19,7 @@ pub fn base_of(fields: &[&[u8]]) -> Option<u64>
     ensures within { IfSome result (λ n. n ≤ most_opaque) }
 {
     match fields {
-        [name, id, opacity, list]
-            if is(name, "element") && is(id, "1") && is(list, "none") =>
-        {
+        [name, id, opacity, list] if is(name, "element") && is(id, "1") && is(list, "none") => {
             natural_within(opacity, 0, MOST_OPAQUE)
         }
         _ => None,
@@ -32,9 +32,7 @@ pub fn from_of(fields: &[&[u8]]) -> Option<u64>
     ensures within { IfSome result (λ n. n ≤ most_opaque) }
 {
     match fields {
-        [name, time, easing, value]
-            if is(name, "key") && is(time, "0") && is(easing, "linear") =>
-        {
+        [name, time, easing, value] if is(name, "key") && is(time, "0") && is(easing, "linear") => {
             natural_within(value, 0, MOST_OPAQUE)
         }
         _ => None,

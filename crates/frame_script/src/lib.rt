@@ -19,3 +19,6 @@ pub use lines::split_line;
 pub use numbers::{integer_within, natural_within};
 pub use read_fade::{MOST_BYTES, read_script};
 pub use refusal::{Cause, ScriptFault};
+
+#[cfg(test)]
+mod tests;

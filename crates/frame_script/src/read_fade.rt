@@ -35,8 +35,7 @@ fn keys_at(alloc: Global, place: Place<'_>) -> Result<((u64, (u64, u64)), Place<
     ensures from { IfOk result (λ x. x.0.0 ≤ most_opaque) }
     ensures last { IfOk result (λ x. (0 < x.0.1.0) × (x.0.1.0 ≤ longest) × (x.0.1.1 ≤ most_opaque)) }
 {
-    let model =
-        place.after("model 1 1 1 1 opacity - 0 1000 0 normal none 1000 auto linear 2")?;
+    let model = place.after("model 1 1 1 1 opacity - 0 1000 0 normal none 1000 auto linear 2")?;
     let (first, second) = model.fields(alloc)?;
     let from = from_of(first.as_slice()).ok_or(model.refused())?;
     let (last, after) = second.fields(alloc)?;
@@ -138,11 +137,5 @@ fn fade_at(alloc: Global, place: Place<'_>) -> Result<FadeScript, ScriptFault>
     let body = shown_at(shown)?;
     let (ticks, end) = ticks_at(alloc, body)?;
     end_at(alloc, ticks.len(), end)?;
-    Ok(FadeScript::new(
-        base as u32,
-        from as u32,
-        to as u32,
-        duration,
-        ticks,
-    ))
+    Ok(FadeScript::new(base as u32, from as u32, to as u32, duration, ticks))
 }

@@ -1,5 +1,5 @@
 -- What replaying a fade script reports.
-use Rattle.std.specs.Prelude.{ℕ, ◌+◌, ◌-◌, ◌*◌, ◌/◌, min, ℤ, pos, negsuc, ◌+ℤ◌, ◌-ℤ◌, ◌*ℤ◌, List, [], ◌∷◌, ◌++◌, length, map, find, replicate, slice_index, Option, Some, None, nat_lt, nat_le, if◌then◌else◌}
+use Rattle.std.specs.Prelude.{ℕ, ◌+◌, ◌-◌, ◌*◌, ◌/◌, min, ℤ, pos, negsuc, ◌+ℤ◌, ◌-ℤ◌, ◌*ℤ◌, List, [], ◌∷◌, ◌++◌, length, map, find, replicate, slice_index, Option, nat_lt, nat_le, if◌then◌else◌}
 use Rattle.std.specs.Int.{int_div_euclid}
 use Rattle.std.specs.Option.{option_to_list}
 use Rattle.anim_names.specs.declared.event.AnimEvent.{AnimEvent}
@@ -7,7 +7,6 @@ use Rattle.anim_names.specs.declared.event.AnimEvent.TheVariants.{Started, Finis
 use Rattle.anim_names.specs.declared.lane.Lane.{Lane}
 use Rattle.anim_names.specs.declared.lane.Lane.TheVariants.{Main, Compositor}
 use Rattle.frame_script.specs.Fades.{Fade, most_opaque}
-use Rattle.word_machine.specs.declared.row.FrameRow.{FrameRow}
 use Rattle.word_machine.specs.Reports.{FrameParts, ReportParts}
 
 -- 1 in the fixed point of progress

@@ -12,3 +12,6 @@ pub use replays::replay;
 pub use report::Report;
 pub use row::FrameRow;
 pub use texts::print_report;
+
+#[cfg(test)]
+mod tests;

@@ -96,7 +96,11 @@ fn print_event(out: &mut String, event: &AnimEvent) -> Result<(), AllocError>
             group,
             at,
             start,
-        } => writeln!(out, "started {} group {} at {at} start {start}", model.0, group.0),
+        } => writeln!(
+            out,
+            "started {} group {} at {at} start {start}",
+            model.0, group.0
+        ),
         AnimEvent::Finished { model, at } => writeln!(out, "finished {} at {at}", model.0),
         AnimEvent::Aborted { model, commit } => {
             writeln!(out, "aborted {} commit {commit}", model.0)

@@ -1,5 +1,4 @@
-use Rattle.std.proofs.Common.{◌∙◌, rules}
-use Rattle.std.proofs.lemmas.List.Sums.{prefix_len-le-length}
+use Rattle.std.proofs.Common.{◌∙◌}
 use Rattle.frame_script.proofs.Cuts.{unwrap_or-position}
 use Rattle.frame_script.proofs.lines.line_end.Goals as goal
 

@@ -1,4 +1,4 @@
-use Rattle.std.proofs.Common.{arith, rules, sym, ◌∙◌}
+use Rattle.std.proofs.Common.{arith, rules}
 use Rattle.frame_script.proofs.Digits.{goes_on, ends}
 use Rattle.frame_script.proofs.numbers.capped_digits.Goals as goal
 

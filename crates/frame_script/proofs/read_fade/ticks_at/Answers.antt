@@ -1,4 +1,4 @@
-use Rattle.std.proofs.Common.{◌≡◌, ◌≤◌, ◌∷◌, [], ap, arith, Ok, length-append}
+use Rattle.std.proofs.Common.{◌≤◌, ◌∷◌, [], ap, arith, Ok, length-append}
 use Rattle.frame_script.specs.Refusals.{left_at}
 use Rattle.frame_script.proofs.Ticks.{goes_on, stops, is_full, NeverFall-push, last_of-push}
 use Rattle.frame_script.proofs.read_fade.ticks_at.Goals as goal

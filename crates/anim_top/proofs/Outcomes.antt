@@ -1,0 +1,82 @@
+-- What an answer that was written whole means for the bytes that were read.
+use Rattle.std.proofs.Common.{◌≡◌, ℕ, ◌<◌, ◌≤◌, Bool, true, false, cond, ltb, List, length, length-append, Option, Some, None, Result, Ok, Err, refl, ap, sym, subst, ◌∙◌, arith, inl, inr}
+use Rattle.std.specs.Prelude.{IfSome}
+use Rattle.std.proofs.lemmas.Bool.{lt-ltb, ltb-false, cases_lt}
+use Rattle.edge_io.specs.Edges.{Took}
+use Rattle.frame_script.specs.declared.refusal.Cause.{Cause}
+use Rattle.frame_script.specs.declared.refusal.Cause.TheVariants.{TooLong}
+use Rattle.frame_script.specs.Lines.{lines}
+use Rattle.frame_script.specs.Refusals.{Refusal}
+use Rattle.frame_script.specs.Fades.{Fade, reading, fade_at}
+use Rattle.anim_top.specs.declared.status.Status.{Status}
+use Rattle.anim_top.specs.declared.status.Status.TheVariants.{Done, Refused}
+use Rattle.anim_top.specs.Answers.{Spells, status_for, text_for}
+use Rattle.anim_top.specs.Outside.{Reads, IsDone, IsRefused, Answers, most_bytes}
+
+too_long : Result Fade Refusal
+too_long = Err (record { line = 0; cause = TooLong })
+
+guarded : (long : Bool) (read : Result Fade Refusal) (fade : Fade) → cond long too_long read ≡ Ok fade → long ≡ false
+unfolding too_long
+guarded true read fade e = absurd cc
+guarded false read fade e = refl
+
+-- only so many bytes spell a script
+pub spelled_short : (bytes : List ℕ) (fade : Fade) → Spells bytes fade → length bytes ≤ most_bytes
+unfolding reading too_long
+spelled_short bytes fade e =
+    ltb-false most_bytes (length bytes) (guarded (ltb most_bytes (length bytes)) (fade_at (record { number = 1; lines = lines bytes })) fade e)
+
+-- more are refused whatever they say
+reading_long : (bytes : List ℕ) → most_bytes < length bytes → reading bytes ≡ too_long
+unfolding reading too_long
+reading_long bytes long = rw (lt-ltb most_bytes (length bytes) long) refl
+
+-- a source that tells its bytes told these, or both are too long
+reading_told : (all : List ℕ) (after : Option (List ℕ)) (bytes : List ℕ) → Reads (Some all) after bytes → reading all ≡ reading bytes
+reading_told all None bytes read = absurd read.given
+reading_told all (Some rest) bytes read =
+    elim (cases_lt most_bytes (length bytes)) [
+      | inl long ↦
+          let longer : most_bytes < length all = rw read.given (omega (arith, length-append bytes rest)) in
+          reading_long all longer ∙ sym (reading_long bytes long)
+      | inr short ↦ ap reading (read.whole short)
+    ]
+
+abbrev refusal_at : ℕ → Cause → Refusal
+refusal_at number cause = record { line = number; cause = cause }
+
+refusal_is : (refusal : Refusal) (number : ℕ) (cause : Cause) → refusal.line ≡ number → refusal.cause ≡ cause → refusal ≡ record { line = number; cause = cause }
+refusal_is refusal number cause p q = ap (λ (n : ℕ). refusal_at n refusal.cause) p ∙ ap (refusal_at number) q
+
+module _ (left after taken took : Option (List ℕ)) (bytes : List ℕ) (status : Status) (text : List ℕ) (read : Reads left after bytes) (written : Took taken took text) where
+  done_for : (r : Result Fade Refusal) → reading bytes ≡ r → status ≡ status_for r → text ≡ text_for r → status ≡ Done → IsDone left after taken took
+  done_for (Ok fade) spelled status-is text-is done =
+      record {
+        bytes = bytes;
+        script = fade;
+        read = read.given;
+        whole = read.whole (spelled_short bytes fade spelled);
+        spelled = spelled;
+        written = subst (λ (t : List ℕ). Took taken took t) text-is written;
+      }
+  done_for (Err refusal) refused status-is text-is done = absurd cc
+
+  pub is_done : status ≡ status_for (reading bytes) → text ≡ text_for (reading bytes) → status ≡ Done → IsDone left after taken took
+  is_done = done_for (reading bytes) refl
+
+  refused_for : (r : Result Fade Refusal) (number : ℕ) (cause : Cause) → reading bytes ≡ r → status ≡ status_for r → text ≡ text_for r → status ≡ Refused number cause → IsRefused left after taken took number cause
+  refused_for (Ok fade) number cause spelled status-is text-is refused = absurd cc
+  refused_for (Err refusal) number cause read-is status-is text-is refused =
+      let same_line : refusal.line ≡ number = cc in
+      let same_cause : refusal.cause ≡ cause = cc in
+      subst (λ (r : Refusal). IsRefused left after taken took r.line r.cause) (refusal_is refusal number cause same_line same_cause)
+      (record { bytes = bytes; read = read; refused = read-is; written = subst (λ (t : List ℕ). Took taken took t) text-is written })
+
+  pub is_refused : (number : ℕ) (cause : Cause) → status ≡ status_for (reading bytes) → text ≡ text_for (reading bytes) → status ≡ Refused number cause → IsRefused left after taken took number cause
+  is_refused number cause = refused_for (reading bytes) number cause refl
+
+-- the answer to the bytes read is the answer to all
+pub is_answer : (left after : Option (List ℕ)) (bytes : List ℕ) (status : Status) → Reads left after bytes → status ≡ status_for (reading bytes) → IfSome left (λ all. Answers status all)
+is_answer None after bytes status read status-is = tt
+is_answer (Some all) after bytes status read status-is = inl (status-is ∙ ap status_for (sym (reading_told all after bytes read)))

@@ -1,0 +1,42 @@
+-- What the program answers: which words it knows, and the status and the text for the bytes that it read.
+use Rattle.std.specs.Prelude.{◌≡◌, ℕ, Bool, false, List, [], ◌∷◌, ◌++◌, Result, Ok, Err, codes}
+use Rattle.std.specs.Fmt.{decimal}
+use Rattle.std.specs.Str.{bytes_eq}
+use Rattle.frame_script.specs.declared.refusal.Cause.{Cause}
+use Rattle.frame_script.specs.declared.refusal.Cause.TheVariants.{BadLine, TooLong}
+use Rattle.frame_script.specs.Refusals.{Refusal}
+use Rattle.frame_script.specs.Fades.{Fade, reading}
+use Rattle.word_machine.specs.Replays.{report_of}
+use Rattle.word_machine.specs.Texts.{line, report_text}
+use Rattle.anim_top.specs.declared.status.Status.{Status}
+use Rattle.anim_top.specs.declared.status.Status.TheVariants.{Done, Refused}
+
+-- The words are a form that the program knows: `replay` alone.
+abbrev pub is_form : List (List ℕ) → Bool
+is_form [] = false
+is_form (word ∷ []) = bytes_eq word (codes "replay")
+is_form (word ∷ other ∷ more) = false
+
+-- These bytes spell this script.
+abbrev pub Spells : List ℕ → Fade → Type 0
+Spells bytes fade = reading bytes ≡ Ok fade
+
+-- These bytes are refused at this line, for this cause.
+abbrev pub IsRefusedAt : List ℕ → ℕ → Cause → Type 0
+IsRefusedAt bytes number cause = reading bytes ≡ Err (record { line = number; cause = cause })
+
+abbrev pub cause_text : Cause → List ℕ
+cause_text BadLine = codes "BadLine"
+cause_text TooLong = codes "TooLong"
+
+abbrev pub refusal_text : ℕ → Cause → List ℕ
+refusal_text number cause = line (codes "refused: line " ++ decimal number ++ codes ": " ++ cause_text cause)
+
+-- the status and the text for what was read
+abbrev pub status_for : Result Fade Refusal → Status
+status_for (Ok fade) = Done
+status_for (Err refusal) = Refused refusal.line refusal.cause
+
+abbrev pub text_for : Result Fade Refusal → List ℕ
+text_for (Ok fade) = report_text (report_of fade)
+text_for (Err refusal) = refusal_text refusal.line refusal.cause

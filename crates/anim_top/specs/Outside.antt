@@ -1,0 +1,48 @@
+-- What a run of the program reads and writes.
+use Rattle.std.specs.Prelude.{◌≡◌, ℕ, ◌+◌, ◌^◌, ◌≤◌, List, length, take, Option, IfSome, ◌⊎◌}
+use Rattle.edge_io.specs.Edges.{Gave, Took}
+use Rattle.frame_script.specs.declared.refusal.Cause.{Cause}
+use Rattle.frame_script.specs.Fades.{Fade, reading}
+use Rattle.word_machine.specs.Replays.{report_of}
+use Rattle.word_machine.specs.Texts.{report_text}
+use Rattle.anim_top.specs.declared.status.Status.{Status}
+use Rattle.anim_top.specs.declared.status.Status.TheVariants.{NoMemory}
+use Rattle.anim_top.specs.Answers.{Spells, IsRefusedAt, refusal_text, status_for, text_for}
+
+abbrev pub most_bytes : ℕ
+most_bytes = 2 ^ 20
+
+-- The source gave these bytes. Where it told its bytes they are all of them, unless there is one more than a script may
+-- have: then the rest was left.
+pub record Reads (left after : Option (List ℕ)) (bytes : List ℕ) : Type 0 where
+  pub given : Gave left after bytes
+  pub few : length bytes ≤ most_bytes + 1
+  pub whole : length bytes ≤ most_bytes → IfSome left (λ all. all ≡ bytes)
+
+-- The source's bytes were read to their end, they spell a script, and the sink took that script's report.
+pub record IsDone (left after taken took : Option (List ℕ)) : Type 0 where
+  pub bytes : List ℕ
+  pub script : Fade
+  pub read : Gave left after bytes
+  pub whole : IfSome left (λ all. all ≡ bytes)
+  pub spelled : Spells bytes script
+  pub written : Took taken took (report_text (report_of script))
+
+-- The source's bytes, read to their end or to one more than a script may have, are refused so, and the sink took the
+-- refusal.
+pub record IsRefused (left after taken took : Option (List ℕ)) (number : ℕ) (cause : Cause) : Type 0 where
+  pub bytes : List ℕ
+  pub read : Reads left after bytes
+  pub refused : IsRefusedAt bytes number cause
+  pub written : Took taken took (refusal_text number cause)
+
+-- The source's bytes were read, and the sink took no more than the front of their report or of their refusal.
+pub record IsCutShort (left after taken took : Option (List ℕ)) : Type 0 where
+  pub bytes : List ℕ
+  pub count : ℕ
+  pub read : Reads left after bytes
+  pub written : Took taken took (take count (text_for (reading bytes)))
+
+-- The answer to these bytes, unless memory ran out.
+abbrev pub Answers : Status → List ℕ → Type 0
+Answers status bytes = (status ≡ status_for (reading bytes)) ⊎ (status ≡ NoMemory)

@@ -1,0 +1,78 @@
+//! Reading a script's bytes.
+
+ghost use Rattle.std.specs.Prelude.{◌≡◌, ◌+◌, ◌≤◌, ◌<◌, ◌++◌, [], List, ℕ, length, IfOk, IfSome, Err};
+ghost use Rattle.edge_io.specs.Edges.{HasRisen, Gave};
+ghost use Rattle.anim_top.specs.Outside.{Reads};
+
+use edge_io::{Failed, Source};
+use frame_script::MOST_BYTES;
+use std::alloc::{AllocError, Global};
+
+/// Why a source's bytes could not be read.
+#[derive(Clone, Copy, Debug, PartialEq, Eq)]
+pub enum ReadError {
+    Fault,
+    NoMemory,
+}
+
+impl From<AllocError> for ReadError {
+    ghost use Rattle.std.specs.Prelude.{◌≡◌};
+    ghost use Rattle.anim_top.specs.declared.intake.ReadError.TheVariants.{NoMemory};
+
+    ghost from_gives = { λ _ error. error ≡ NoMemory };
+
+    fn from(_error: AllocError) -> ReadError {
+        ReadError::NoMemory
+    }
+}
+
+impl From<Failed> for ReadError {
+    ghost use Rattle.std.specs.Prelude.{◌≡◌};
+    ghost use Rattle.anim_top.specs.declared.intake.ReadError.TheVariants.{Fault};
+
+    ghost from_gives = { λ _ error. error ≡ Fault };
+
+    fn from(_error: Failed) -> ReadError {
+        ReadError::Fault
+    }
+}
+
+/// So many bytes are asked for at once.
+const PART: usize = 4096;
+
+/// Reads a source to its end, or to one byte more than a script may have.
+pub fn read_bytes<S: Source>(alloc: Global, source: &mut S) -> Result<Vec<u8>, ReadError>
+    ensures read { IfOk result (λ bytes. Reads (S.left source.old) (S.left source.new) bytes.items) }
+    ensures fault { result ≡ Err ReadError.Fault → HasRisen (S.faults source.old) (S.faults source.new) }
+    ensures never_falls { S.faults source.old ≤ S.faults source.new }
+{
+    let mut bytes = Vec::new(alloc);
+    while bytes.len() <= MOST_BYTES {
+        let room = PART.min(MOST_BYTES + 1 - bytes.len());
+        if read_part(source, room, &mut bytes)? == 0 {
+            return Ok(bytes);
+        }
+    }
+    Ok(bytes)
+}
+
+/// Reads the next bytes, so many at most, to the end of `bytes`, and says how many they are.
+fn read_part<S: Source>(
+    source: &mut S,
+    room: usize,
+    bytes: &mut Vec<u8>,
+) -> Result<usize, ReadError>
+    requires some { 0 < room }
+    requires most { room ≤ 4096 }
+    ensures given { IfOk result (λ n. (part : List ℕ) × (length part ≡ n) × (bytes.new.items ≡ bytes.old.items ++ part)
+        × Gave (S.left source.old) (S.left source.new) part) }
+    ensures room { IfOk result (λ n. n ≤ room) }
+    ensures end { IfOk result (λ n. n ≡ 0 → IfSome (S.left source.old) (λ rest. rest ≡ [])) }
+    ensures fault { result ≡ Err ReadError.Fault → HasRisen (S.faults source.old) (S.faults source.new) }
+    ensures never_falls { S.faults source.old ≤ S.faults source.new }
+{
+    let mut buffer = [0u8; PART];
+    let count = source.read(&mut buffer[..room])?;
+    bytes.extend_from_slice(&buffer[..count])?;
+    Ok(count)
+}

@@ -1,0 +1,17 @@
+//! The program, over a source and a sink: what it answers to its words and to the bytes that it reads.
+//!
+//! [`command`] is the call that the program makes. Its clauses say, status by status, when each answer comes,
+//! what was read and what was written, in the words of `specs/Answers.antt` and `specs/Outside.antt`.
+#![tactic(auto)]
+
+mod answer;
+pub mod commands;
+mod intake;
+mod outlet;
+pub mod status;
+
+pub use commands::{command, plain_command};
+pub use status::Status;
+
+#[cfg(test)]
+mod tests;

@@ -1,0 +1,37 @@
+use frame_script::Cause;
+
+/// How the program ended.
+#[derive(Clone, Copy, Debug, PartialEq, Eq)]
+pub enum Status {
+    /// The whole output was written.
+    Done,
+    /// The words are no form that the program knows. Nothing was read or written.
+    Usage,
+    /// The script is refused at this line, for this cause, and the refusal was written.
+    Refused { line: u32, cause: Cause },
+    /// The source failed. Nothing was written.
+    ReadFault,
+    /// The sink failed. What it took is the front of the output.
+    WriteFault,
+    /// Memory ran out. Nothing was written.
+    NoMemory,
+}
+
+impl Status {
+    ghost use Rattle.std.specs.Prelude.{◌≡◌};
+    ghost use Rattle.anim_top.specs.Statuses.{number_of};
+
+    /// The number that a process ends with.
+    pub fn number(&self) -> u8
+        ensures { result ≡ number_of self.now }
+    {
+        match self {
+            Status::Done => 0,
+            Status::Usage => 2,
+            Status::Refused { .. } => 3,
+            Status::ReadFault => 4,
+            Status::WriteFault => 5,
+            Status::NoMemory => 6,
+        }
+    }
+}

@@ -1,0 +1,294 @@
+ghost use Rattle.std.specs.Prelude.{◌≢◌, IfOk};
+
+use super::*;
+use edge_io::{MemorySink, MemorySource, SteadySink, SteadySource};
+use frame_script::Cause;
+use std::alloc::{AllocError, Global};
+use std::test::Fail;
+
+const SCRIPT: &str = "anim 1
+main
+timeline 1 0
+element 1 1000000 none
+model 1 1 1 1 opacity - 0 1000 0 normal none 1000 auto linear 2
+key 0 linear 0
+key 1000000 linear 1000000
+commit
+compositor
+pull
+activate
+tick 16000
+tick 349333
+tick 516000
+word MMMMCCCCC
+end
+";
+
+const REPORT: &str = "report 1
+word MMMMCCCCC
+frame 16000 commit 1
+element 1 0 none
+frame 349333 commit 1
+element 1 333332 none
+frame 516000 commit 1
+element 1 500000 none
+started 1 group 1 at 16000 start 16000
+heard 1
+end
+";
+
+const FINISHED: &str = "report 1
+word MMMMCCCCC
+frame 16000 commit 1
+element 1 0 none
+frame 349333 commit 1
+element 1 333332 none
+frame 1016000 commit 1
+element 1 1000000 none
+started 1 group 1 at 16000 start 16000
+finished 1 at 1016000
+heard 2
+end
+";
+
+/// The text with one line changed, or left out where there is no new one.
+fn with_line(
+    alloc: Global,
+    text: &str,
+    number: usize,
+    new: Option<&str>,
+) -> Result<String, AllocError> {
+    let mut changed = String::new(alloc);
+    for (i, line) in text.lines().enumerate() {
+        if i.wrapping_add(1) != number {
+            changed.push_str(line)?;
+            changed.push('\n')?;
+        } else if let Some(new) = new {
+            changed.push_str(new)?;
+            changed.push('\n')?;
+        }
+    }
+    Ok(changed)
+}
+
+fn words_of(alloc: Global, words: &[&str]) -> Result<Vec<String>, AllocError> {
+    let mut all = Vec::new(alloc);
+    for word in words {
+        all.push(String::from_str(alloc, word)?)?;
+    }
+    Ok(all)
+}
+
+/// Replays the bytes, and gives the status and what was written.
+fn replayed(rt: &HostRuntime, bytes: &[u8]) -> Result<(Status, Vec<u8>), AllocError> {
+    let alloc = rt.alloc();
+    let words = words_of(alloc, &["replay"])?;
+    let mut source = MemorySource::new(bytes.to_vec(alloc)?, 100, Vec::new(alloc));
+    let mut sink = MemorySink::new(alloc, 64, Vec::new(alloc))?;
+    let status = command(rt, alloc, words.as_slice(), &mut source, &mut sink);
+    Ok((status, sink.taken().to_vec(alloc)?))
+}
+
+#[test]
+fn a_script_is_replayed(rt: HostRuntime) -> Result<(), Fail> {
+    let finished = with_line(rt.alloc(), SCRIPT, 14, Some("tick 1016000"))?;
+    let still = with_line(rt.alloc(), SCRIPT, 12, None)?;
+    let still = with_line(rt.alloc(), still.as_str(), 12, None)?;
+    let still = with_line(rt.alloc(), still.as_str(), 12, None)?;
+    let still = with_line(rt.alloc(), still.as_str(), 12, Some("word MMMMCC"))?;
+    for (script, report) in [
+        (SCRIPT, REPORT),
+        (finished.as_str(), FINISHED),
+        (still.as_str(), "report 1\nword MMMMCC\nheard 0\nend\n"),
+    ] {
+        let (status, text) = replayed(&rt, script.as_bytes())?;
+        assert_eq!(rt; status, Status::Done);
+        assert_eq!(rt; text.as_slice(), report.as_bytes());
+    }
+    Ok(())
+}
+
+#[test]
+fn the_first_bad_line_is_refused(rt: HostRuntime) -> Result<(), Fail> {
+    for (line, new) in [
+        (1, "anim 3"),
+        (2, "main "),
+        (3, "timeline 01 0"),
+        (4, "element 1 1000001 none"),
+        (4, "element 1 -0 none"),
+        (4, "element 1  1000000 none"),
+        (4, "element 1 01 none"),
+        (
+            5,
+            "model 2 1 1 1 opacity - 0 1000 0 normal none 1000 auto linear 2",
+        ),
+        (6, "key 0 linear +1"),
+        (6, "key 1 linear 0"),
+        (7, "key 0 linear 1000000"),
+        (7, "key 68719476737 linear 1000000"),
+        (8, "commit\r"),
+        (9, "compositors"),
+        (10, " pull"),
+        (11, ""),
+        (13, "tick 15999"),
+        (14, "tick 1125899906842625"),
+        (14, "tick 99999999999999999999999999999999"),
+        (15, "word MMMMCCCC"),
+        (15, "word MMMMCCCCCC"),
+        (16, "end end"),
+    ] {
+        let script = with_line(rt.alloc(), SCRIPT, line as usize, Some(new))?;
+        let (status, text) = replayed(&rt, script.as_bytes())?;
+        let cause = Cause::BadLine;
+        assert_eq!(rt; status, Status::Refused { line, cause }, "at {new:?}");
+        let refusal = format!(in rt.alloc(); "refused: line {line}: BadLine\n")?;
+        assert_eq!(rt; text.as_slice(), refusal.as_bytes(), "at {new:?}");
+        assert_eq!(rt; status.number(), 3);
+    }
+    Ok(())
+}
+
+#[test]
+fn lines_that_are_missing_or_too_many_are_refused(rt: HostRuntime) -> Result<(), Fail> {
+    let (status, text) = replayed(&rt, b"")?;
+    assert_eq!(rt; text.as_slice(), b"refused: line 1: BadLine\n".as_slice());
+    assert_eq!(rt; status.number(), 3);
+
+    let (_, text) = replayed(&rt, with_line(rt.alloc(), SCRIPT, 16, None)?.as_bytes())?;
+    assert_eq!(rt; text.as_slice(), b"refused: line 16: BadLine\n".as_slice());
+
+    let more = with_line(rt.alloc(), SCRIPT, 16, Some("end\nend"))?;
+    let (_, text) = replayed(&rt, more.as_bytes())?;
+    assert_eq!(rt; text.as_slice(), b"refused: line 17: BadLine\n".as_slice());
+
+    let (status, text) = replayed(&rt, vec![in rt.alloc(); b'#'; (1 << 20) + 1]?.as_slice())?;
+    assert_eq!(rt; text.as_slice(), b"refused: line 0: TooLong\n".as_slice());
+    assert_eq!(rt; status.number(), 3);
+
+    let (_, text) = replayed(&rt, vec![in rt.alloc(); b'#'; 1 << 20]?.as_slice())?;
+    assert_eq!(rt; text.as_slice(), b"refused: line 1: BadLine\n".as_slice());
+    Ok(())
+}
+
+#[test]
+fn only_the_last_line_feed_may_be_missing(rt: HostRuntime) -> Result<(), Fail> {
+    let script = SCRIPT.as_bytes();
+    for (length, _) in script.iter().enumerate() {
+        if let Some(front) = script.get(..length) {
+            let (status, text) = replayed(&rt, front)?;
+            if length.wrapping_add(1) == script.len() {
+                assert_eq!(rt; text.as_slice(), REPORT.as_bytes());
+            } else {
+                assert_eq!(rt; status.number(), 3, "at {length}");
+            }
+        }
+    }
+    Ok(())
+}
+
+#[test]
+fn a_source_that_fails_leaves_nothing_written(rt: HostRuntime) -> Result<(), Fail> {
+    let alloc = rt.alloc();
+    let words = words_of(alloc, &["replay"])?;
+    for failing in 0..5 {
+        let failing_calls = vec![in alloc; failing]?;
+        let bytes = SCRIPT.as_bytes().to_vec(alloc)?;
+        let mut source = MemorySource::new(bytes, 100, failing_calls);
+        let mut sink = MemorySink::new(alloc, 64, Vec::new(alloc))?;
+        let status = plain_command(alloc, words.as_slice(), &mut source, &mut sink);
+        if failing < 4 {
+            assert_eq!(rt; status.number(), 4, "at call {failing}");
+            assert_eq!(rt; sink.taken(), b"".as_slice());
+        } else {
+            assert_eq!(rt; status.number(), 0);
+            assert_eq!(rt; sink.taken(), REPORT.as_bytes());
+        }
+    }
+    Ok(())
+}
+
+#[test]
+fn a_sink_that_fails_took_a_front_of_the_report(rt: HostRuntime) -> Result<(), Fail> {
+    let alloc = rt.alloc();
+    let words = words_of(alloc, &["replay"])?;
+    for failing in 0..5 {
+        let mut source = SteadySource::new(SCRIPT.as_bytes().to_vec(alloc)?);
+        let mut sink = MemorySink::new(alloc, 64, vec![in alloc; failing]?)?;
+        let status = plain_command(alloc, words.as_slice(), &mut source, &mut sink);
+        let taken = sink.taken();
+        assert!(rt; REPORT.as_bytes().starts_with(taken));
+        if failing < 4 {
+            assert_eq!(rt; status.number(), 5, "at call {failing}");
+            assert_eq!(rt; taken.len(), 64 * failing as usize);
+        } else {
+            assert_eq!(rt; status.number(), 0);
+            assert_eq!(rt; taken, REPORT.as_bytes());
+        }
+    }
+    Ok(())
+}
+
+#[test]
+fn words_that_are_no_form_touch_nothing(rt: HostRuntime) -> Result<(), Fail> {
+    let alloc = rt.alloc();
+    let mut source = SteadySource::new(SCRIPT.as_bytes().to_vec(alloc)?);
+    let mut sink = SteadySink::new(alloc, 201)?;
+    for text in ["", "replay x", "gen", "gen 0", "gen 201", "gen 01", "Run"] {
+        let mut words = Vec::new(alloc);
+        for word in text.split_whitespace() {
+            words.push(String::from_str(alloc, word)?)?;
+        }
+        let status = command(&rt, alloc, words.as_slice(), &mut source, &mut sink);
+        assert_eq!(rt; status.number(), 2, "for {text:?}");
+        assert_eq!(rt; sink.taken(), b"".as_slice());
+    }
+    assert_eq!(rt; steadily(&rt, &mut source, &mut sink)?, Status::Done);
+    assert!(rt; sink.is_whole());
+    assert_eq!(rt; sink.taken(), REPORT.as_bytes());
+    Ok(())
+}
+
+/// Over a source and a sink that never fail no answer is a fault.
+fn steadily(
+    rt: &HostRuntime,
+    source: &mut SteadySource,
+    sink: &mut SteadySink,
+) -> Result<Status, AllocError>
+    ensures { IfOk result (λ status. (status ≢ Status.ReadFault) × (status ≢ Status.WriteFault)) }
+{
+    let words = words_of(rt.alloc(), &["replay"])?;
+    Ok(command(rt, rt.alloc(), words.as_slice(), source, sink))
+}
+
+#[test]
+fn as_many_ticks_as_a_lane_may_have_are_replayed(rt: HostRuntime) -> Result<(), Fail> {
+    let mut script = String::new(rt.alloc());
+    for line in SCRIPT.lines().take(11) {
+        script.push_str(line)?;
+        script.push('\n')?;
+    }
+    let mut word = String::from_str(rt.alloc(), "word MMMMCC")?;
+    for time in 0..9_998u32 {
+        writeln!(script, "tick {}", 200 * time)?;
+        word.push('C')?;
+    }
+    let fits = format!(in rt.alloc(); "{script}{word}\nend\n")?;
+    let (status, text) = replayed(&rt, fits.as_bytes())?;
+    assert_eq!(rt; status, Status::Done);
+    assert!(rt;
+        text.as_slice()
+            .ends_with(b"finished 1 at 1000000\nheard 2\nend\n")
+    );
+
+    let more = format!(in rt.alloc(); "{script}tick 2000000\n{word}C\nend\n")?;
+    let (status, _) = replayed(&rt, more.as_bytes())?;
+    let cause = Cause::BadLine;
+    assert_eq!(rt;
+        status,
+        Status::Refused {
+            line: 10_010,
+            cause
+        }
+    );
+    Ok(())
+}
