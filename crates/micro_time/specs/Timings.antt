@@ -27,6 +27,17 @@ pub record TimingParts : Type 0 where
   pub fill : Fill
   pub rate : ℤ
 
+abbrev pub timing_parts : ℕ → ℤ → Iterations → ℕ → Direction → Fill → ℤ → TimingParts
+timing_parts duration offset iterations iteration_start direction fill rate = record {
+  duration = duration;
+  offset = offset;
+  iterations = iterations;
+  iteration_start = iteration_start;
+  direction = direction;
+  fill = fill;
+  rate = rate;
+}
+
 -- ---- their ranges
 
 abbrev pub is_duration : ℕ → Bool
