@@ -1,5 +1,5 @@
 -- The timings of the worked rows. The curve of each is a second long.
-use Rattle.std.specs.Prelude.{ℤ, pos, negsuc}
+use Rattle.std.specs.Prelude.{pos, negsuc}
 use Rattle.micro_time.specs.Timings.{TimingParts, timing_parts}
 use Rattle.micro_time.specs.declared.direction.Direction.{Direction}
 use Rattle.micro_time.specs.declared.direction.Direction.TheVariants.{Normal, AlternateReverse}

@@ -1,6 +1,8 @@
 ghost use Rattle.std.specs.Prelude.{◌≡◌, ◌+◌, ◌*◌, ◌^◌, ◌<◌, ◌≤◌, unsigned_abs, IfOk, IfSome, None};
 ghost use Rattle.std.specs.Result.{result_err};
-ghost use Rattle.micro_time.specs.Timings.{timing_parts, refusal, elapsed, covered, total, phase, is_done, progress_in, place_in, one_iteration, is_last_end, iteration_at, part_at, time_at, curve_time};
+ghost use Rattle.micro_time.specs.Timings.{timing_parts, refusal, phase, is_done, curve_time};
+ghost use Rattle.micro_time.specs.Timings.{elapsed, covered, total, progress_in, skipped, place_in};
+ghost use Rattle.micro_time.specs.Timings.{one_iteration, is_last_end, iteration_at, part_at, time_at};
 
 use crate::{Direction, Fill, Iterations, Phase, TimingFault, TimingField};
 use std::marker::Model;
@@ -28,10 +30,11 @@ impl Model for Timing {
 
     ghost Value = { TimingParts };
 
-    ghost view = { λ t. timing_parts t.duration t.offset t.iterations t.iteration_start t.direction t.fill t.rate };
+    ghost view = { λ t.
+        timing_parts t.duration t.offset t.iterations t.iteration_start t.direction t.fill t.rate };
 
-    ghost invariant = { λ t. refusal (timing_parts t.duration t.offset t.iterations t.iteration_start t.direction t.fill t.rate)
-        ≡ None };
+    ghost invariant = { λ t.
+        refusal (timing_parts t.duration t.offset t.iterations t.iteration_start t.direction t.fill t.rate) ≡ None };
 
     ghost inverse = { λ t. record {
       duration = t.duration;
@@ -45,8 +48,8 @@ impl Model for Timing {
 }
 
 impl Timing {
-    /// Makes a timing of its parts. The fields' docs and those of [`TimingField`] have the units and ranges. An error
-    /// names the first field that is out of range; else infinite iterations with a negative rate are refused.
+    /// Makes a timing of its parts. What each part is the readers say, and its range [`TimingField`] says. The first
+    /// field that is out of range is refused, and else infinite iterations at a negative rate.
     pub fn new(
         duration: u64,
         offset: i64,
@@ -168,8 +171,8 @@ impl Timing {
         self.phase(local) == Phase::After
     }
 
-    /// The time of the curve that shows at a local time, both in microseconds. There is none exactly before or after the
-    /// iterations without the fill for it.
+    /// The time of the curve that shows at a local time, both in microseconds. There is none exactly before or
+    /// after the iterations without the fill for it.
     #[tactic(auto, unfolding(crate::specs::Timings::curve_time))]
     pub fn curve_time(&self, local: i64) -> Option<u64>
         requires { unsigned_abs local ≤ 2 ^ 52 }
@@ -236,7 +239,7 @@ impl Timing {
 
     // The length of the iterations that the iteration start leaves out.
     fn skipped(&self) -> u128
-        ensures value { result ≡ self.now.iteration_start * self.now.duration }
+        ensures value { result ≡ skipped self.now }
         ensures size { result < 2 ^ 57 }
     {
         u128::from(self.iteration_start) * u128::from(self.duration)
@@ -290,10 +293,9 @@ impl Timing {
         ensures within { result ≤ one_iteration self.now }
     {
         if self.is_last_end(place) {
-            self.one_iteration()
-        } else {
-            place % self.one_iteration()
+            return self.one_iteration();
         }
+        place % self.one_iteration()
     }
 
     // The time of the curve at this place.

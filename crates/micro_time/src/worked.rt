@@ -1,4 +1,5 @@
 //! Worked rows: the check computes the definitions at numbers worked out by hand. The functions do nothing.
+#![tactic(auto, unfolding(crate::specs::Timings::phase, crate::specs::Timings::is_done, crate::specs::Timings::curve_time))]
 
 ghost use Rattle.std.specs.Prelude.{◌≡◌, pos, negsuc, ◌≤ℤ◌, IsTrue, IsFalse, Some, None};
 ghost use Rattle.micro_time.specs.Timings.{refusal, is_done, curve_time};
@@ -8,7 +9,6 @@ ghost use Rattle.micro_time.specs.declared.fault.TimingFault.{TimingFault};
 ghost use Rattle.micro_time.specs.declared.fault.TimingField.{TimingField};
 
 /// Two and a half iterations of a second, backwards first, end in the middle of the last one.
-#[tactic(auto, unfolding(crate::specs::Timings::phase, crate::specs::Timings::is_done, crate::specs::Timings::curve_time))]
 pub fn two_and_a_half_iterations()
     ensures before { curve_time two_and_a_half (negsuc 0) ≡ Some 1000000 }
     ensures turn { curve_time two_and_a_half (pos 1000000) ≡ Some 0 }
@@ -19,7 +19,6 @@ pub fn two_and_a_half_iterations()
 {}
 
 /// At their end and ever after the curve time stands, and the animation is done.
-#[tactic(auto, unfolding(crate::specs::Timings::phase, crate::specs::Timings::is_done, crate::specs::Timings::curve_time))]
 pub fn two_and_a_half_iterations_over(local: i64)
     requires { pos 2500000 ≤ℤ local }
     ensures stands { curve_time two_and_a_half local ≡ Some 500000 }
@@ -27,7 +26,6 @@ pub fn two_and_a_half_iterations_over(local: i64)
 {}
 
 /// No iterations are over at once: at the beginning of the curve, or at its end where it is run through backwards.
-#[tactic(auto, unfolding(crate::specs::Timings::phase, crate::specs::Timings::is_done, crate::specs::Timings::curve_time))]
 pub fn no_iterations()
     ensures before { curve_time (none_at_all Direction.Normal) (negsuc 0) ≡ None }
     ensures normal { curve_time (none_at_all Direction.Normal) (pos 0) ≡ Some 0 }
@@ -36,7 +34,6 @@ pub fn no_iterations()
 {}
 
 /// At the rate -1 the curve is run through from its end.
-#[tactic(auto, unfolding(crate::specs::Timings::phase, crate::specs::Timings::curve_time))]
 pub fn negative_rate()
     ensures beginning { curve_time reversed (pos 0) ≡ Some 1000000 }
     ensures quarter { curve_time reversed (pos 250000) ≡ Some 750000 }
