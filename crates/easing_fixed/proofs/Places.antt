@@ -99,3 +99,17 @@ module _ (x1 x2 p a b : ℕ) (p1 : x1 ≤ 10 ^ 6) (p2 : x2 ≤ 10 ^ 6) (inside :
         | inr h ↦ let e : ONE ≡ s = omega (arith, k.within) in subst (λ n. ONE * a < b * (n + 1)) e (past_all some)
         ] in
       (omega (arith, low), omega (arith, high))
+
+-- ---- the bisection
+
+-- where the gap between a step that is not past p and one that is has closed, the first is the place
+pub place-from_gap : (x1 x2 p low high : ℕ) → x1 ≤ 10 ^ 6 → x2 ≤ 10 ^ 6 → low < high → high ≤ low + 1 → high ≤ ONE + 1 → across ONE x1 x2 low ≤ bound p → (high ≤ ONE → bound p < across ONE x1 x2 high) → low ≡ place x1 x2 p
+place-from_gap x1 x2 p low high p1 p2 less gap fits not_past past =
+    IsPlace-place x1 x2 p low p1 p2 (record {
+      within = omega arith;
+      not_past = not_past;
+      greatest = λ r within t. elim (cases_lt low r) [
+          inl h ↦ absurd (omega (arith, past (omega arith), across-rises_weakly ONE x1 x2 high r p1 p2 (omega arith) within))
+        | inr h ↦ h
+        ];
+    })

@@ -2,7 +2,7 @@
 use Rattle.std.proofs.Common.{◌≡◌, ℕ, zero, ◌+◌, ◌-◌, ◌*◌, ◌^◌, ◌<◌, ◌≤◌, ◌⊎◌, inl, inr, subst, arith}
 use Rattle.std.proofs.lemmas.Bool.{cases_lt}
 use Rattle.std.proofs.Math.Nat.{mul-pos}
-use Rattle.easing_fixed.specs.Cubics.{across}
+use Rattle.easing_fixed.specs.Cubics.{first_weight, second_weight, end_weight, across}
 
 -- the curve by the two distances from its ends
 abbrev across_by : ℕ → ℕ → ℕ → ℕ → ℕ → ℕ
@@ -76,3 +76,13 @@ across-scaled k n x1 x2 s h =
     let products : k * (n - s) + k * s ≡ k * n = subst (λ y. k * (n - s) + k * s ≡ k * y) e (omega arith) in
     let u : k * (n - s) ≡ k * n - k * s = omega arith in
     subst (λ y. across_by y (k * s) x1 x2 (10 ^ 6) ≡ k * k * k * across n x1 x2 s) u (scaled_by k (n - s) s x1 x2 (10 ^ 6))
+
+-- ---- the weights
+
+weights_of : (u s : ℕ) → 3 * u * u * s + 3 * u * s * s + s * s * s ≤ (u + s) * (u + s) * (u + s)
+weights_of u s = omega arith
+
+pub weights_le : (n s : ℕ) → s ≤ n → first_weight n s + second_weight n s + end_weight s ≤ n * n * n
+weights_le n s h =
+    let e : (n - s) + s ≡ n = omega arith in
+    subst (λ y. first_weight n s + second_weight n s + end_weight s ≤ y * y * y) e (weights_of (n - s) s)

@@ -6,11 +6,12 @@
 #![tactic(auto)]
 
 pub mod cubic;
+mod curve;
 pub mod easing;
 pub mod fault;
+pub mod laws;
 pub mod position;
 pub mod step;
-mod weight;
 pub mod worked;
 
 pub use cubic::CubicShape;

@@ -38,6 +38,14 @@ impl StepShape {
         Ok(StepShape { count, position })
     }
 
+    // The step function of this count and position.
+    pub(crate) fn of(count: u32, position: StepPosition) -> StepShape
+        requires { step_refusal (step_parts count position) ≡ None }
+        ensures { result ≡ step_parts count position }
+    {
+        StepShape { count, position }
+    }
+
     /// How many steps there are.
     pub fn count(&self) -> u32
         ensures value { result ≡ self.now.count }
