@@ -2,10 +2,9 @@ ghost use Rattle.std.specs.Prelude.{◌≡◌, ◌*◌, ◌^◌, ◌≤◌, pos,
 ghost use Rattle.std.specs.Result.{result_err};
 ghost use Rattle.easing_fixed.specs.Cubics.{cubic_parts, cubic_refusal, is_x, is_y, cubic_value};
 
-use std::marker::Model;
-
 use crate::curve::{self, STEP};
 use crate::{EasingFault, ONE};
+use std::marker::Model;
 
 /// A cubic Bézier curve from (0, 0) to (1, 1) by its two control points, after CSS Easing Functions Level 1.
 ///

@@ -30,7 +30,9 @@ pub(crate) fn height(y1: i32, y2: i32, s: u32) -> i128
     ensures value { result ≡ height ONE y1 y2 s }
     ensures size { unsigned_abs result ≤ ONE * ONE * ONE * 10 ^ 7 }
 {
-    weighed(first_weight(s), y1) + weighed(second_weight(s), y2) + weighed(end_weight(s), END as i32)
+    weighed(first_weight(s), y1)
+        + weighed(second_weight(s), y2)
+        + weighed(end_weight(s), END as i32)
 }
 
 /// The greatest step at which the curve is no farther across than p, by a bisection of at most 21 turns.
@@ -56,8 +58,7 @@ pub(crate) fn place(x1: u32, x2: u32, p: u32) -> u32
     low
 }
 
-// How much the two control points and the end of the curve weigh at step s.
-
+// How much the first control point weighs at step s.
 fn first_weight(s: u32) -> u64
     requires { s ≤ ONE }
     ensures value { result ≡ first_weight ONE s }
@@ -67,6 +68,7 @@ fn first_weight(s: u32) -> u64
     3 * rest * rest * u64::from(s)
 }
 
+// How much the second control point weighs there.
 fn second_weight(s: u32) -> u64
     requires { s ≤ ONE }
     ensures value { result ≡ second_weight ONE s }
@@ -76,6 +78,7 @@ fn second_weight(s: u32) -> u64
     3 * (u64::from(ONE) - s) * s * s
 }
 
+// How much the end of the curve weighs there.
 fn end_weight(s: u32) -> u64
     requires { s ≤ ONE }
     ensures value { result ≡ end_weight s }

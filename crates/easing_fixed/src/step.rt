@@ -2,9 +2,8 @@ ghost use Rattle.std.specs.Prelude.{◌≡◌, ◌+◌, ◌*◌, ◌^◌, ◌<�
 ghost use Rattle.std.specs.Result.{result_err};
 ghost use Rattle.easing_fixed.specs.Steps.{step_parts, step_refusal, jumps, step, step_value};
 
-use std::marker::Model;
-
 use crate::{EasingFault, ONE, StepPosition};
+use std::marker::Model;
 
 /// A step function: how many steps, and where it jumps.
 #[derive(Clone, Copy, Debug, PartialEq, Eq, Hash)]
