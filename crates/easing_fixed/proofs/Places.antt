@@ -1,10 +1,12 @@
 -- The place is the one greatest parameter that is not past the progress, and it brackets the exact root.
-use Rattle.std.proofs.Common.{◌≡◌, ℕ, zero, suc, ◌+◌, ◌*◌, ◌^◌, ◌<◌, ◌≤◌, Bool, true, false, cond, inl, inr, ◌∙◌, subst, refl, arith}
+use Rattle.std.proofs.Common.{ℤ, pos, unsigned_abs, ◌≡◌, ℕ, zero, suc, ◌+◌, ◌*◌, ◌^◌, ◌<◌, ◌≤◌, Bool, true, false, cond, inl, inr, ◌∙◌, subst, refl, arith}
 use Rattle.std.proofs.Math.Nat.{pow-suc, mul-le-mul_left, mul-lt-mul_of_pos_left, mul-pos}
+use Rattle.std.proofs.Math.IntN.{zero-*ℤ}
+use Rattle.std.specs.Int.{int_div_euclid}
 use Rattle.std.proofs.lemmas.Bool.{cases_lt}
 use Rattle.std.proofs.lemmas.Bool.Decides.{nat_tests}
 use Rattle.easing_fixed.specs.declared.TheConstants.{ONE}
-use Rattle.easing_fixed.specs.Cubics.{across, bound, IsPlace, is_not_past, greatest_from, place}
+use Rattle.easing_fixed.specs.Cubics.{CubicParts, cubic_value, height, across, bound, IsPlace, is_not_past, greatest_from, place}
 use Rattle.easing_fixed.proofs.Rising.{across-rises, across-rises_weakly, across-scaled}
 
 -- ---- the number that is built bit by bit
@@ -113,3 +115,40 @@ place-from_gap x1 x2 p low high p1 p2 less gap fits not_past past =
         | inr h ↦ h
       ];
     })
+
+-- ---- the ends
+
+place-zero : (x1 x2 : ℕ) → x1 ≤ 10 ^ 6 → x2 ≤ 10 ^ 6 → 0 ≡ place x1 x2 0
+place-zero x1 x2 p1 p2 = IsPlace-place x1 x2 0 0 p1 p2 (record {
+  within = omega arith;
+  not_past = omega arith;
+  greatest = λ r within t. elim (cases_lt 0 r) [
+    | inl h ↦ absurd (omega (arith, across-rises ONE x1 x2 0 r p1 p2 h within, t))
+    | inr h ↦ h
+  ];
+})
+
+place-one : (x1 x2 : ℕ) → x1 ≤ 10 ^ 6 → x2 ≤ 10 ^ 6 → ONE ≡ place x1 x2 ONE
+place-one x1 x2 p1 p2 = IsPlace-place x1 x2 ONE ONE p1 p2 (record {
+  within = omega arith;
+  not_past = omega arith;
+  greatest = λ r within t. within;
+})
+
+height-zero : (y1 y2 : ℤ) → height ONE y1 y2 0 ≡ pos 0
+height-zero y1 y2 = rw (zero-*ℤ y1, zero-*ℤ y2)
+
+height-one : (y1 y2 : ℤ) → height ONE y1 y2 ONE ≡ pos (ONE * ONE * ONE * 10 ^ 6)
+height-one y1 y2 = rw (zero-*ℤ y1, zero-*ℤ y2)
+
+pub cubic_value-zero : (c : CubicParts) → unsigned_abs c.x1 ≤ 10 ^ 6 → unsigned_abs c.x2 ≤ 10 ^ 6 → cubic_value c 0 ≡ pos 0
+unfolding cubic_value
+cubic_value-zero c p1 p2 =
+    subst (λ s. int_div_euclid (height ONE c.y1 c.y2 s) (pos (ONE * ONE * 10 ^ 6)) ≡ pos 0) (place-zero (unsigned_abs c.x1) (unsigned_abs c.x2) p1 p2)
+    (rw (height-zero c.y1 c.y2))
+
+pub cubic_value-one : (c : CubicParts) → unsigned_abs c.x1 ≤ 10 ^ 6 → unsigned_abs c.x2 ≤ 10 ^ 6 → cubic_value c ONE ≡ pos ONE
+unfolding cubic_value
+cubic_value-one c p1 p2 =
+    subst (λ s. int_div_euclid (height ONE c.y1 c.y2 s) (pos (ONE * ONE * 10 ^ 6)) ≡ pos ONE) (place-one (unsigned_abs c.x1) (unsigned_abs c.x2) p1 p2)
+    (rw (height-one c.y1 c.y2))

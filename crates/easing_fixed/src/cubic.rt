@@ -33,8 +33,8 @@ impl Model for CubicShape {
 }
 
 impl CubicShape {
-    /// Makes a curve with the control points (x1, y1) and (x2, y2): each x from 0 to 1,000,000 millionths, each y from
-    /// -10,000,000 to 10,000,000.
+    /// Makes a curve with the control points (x1, y1) and (x2, y2), in millionths: each x from 0 to 1,000,000, each
+    /// y from -10,000,000 to 10,000,000. The x's are judged first.
     pub fn new(x1: i64, y1: i64, x2: i64, y2: i64) -> Result<CubicShape, EasingFault>
         ensures refused { result_err result ≡ cubic_refusal (cubic_parts x1 y1 x2 y2) }
         ensures parts { IfOk result (λ shape. shape ≡ cubic_parts x1 y1 x2 y2) }
@@ -59,7 +59,7 @@ impl CubicShape {
         ensures value { result ≡ self.now.x1 }
 
         // What holds of every shape: `new` would take its parts.
-        ensures taken { cubic_refusal self.now ≡ None }
+        ensures in_range { cubic_refusal self.now ≡ None }
     {
         i64::from(self.x1)
     }

@@ -9,7 +9,7 @@ use crate::ONE;
 const END: u32 = 1_000_000;
 
 /// How far one step across or up is, in the unit of [`across`] and [`height`].
-pub(crate) const STEP: u64 = 1_048_576 * 1_048_576 * 1_000_000;
+pub(crate) const STEP: u64 = ONE as u64 * ONE as u64 * END as u64;
 
 /// How far across the curve is at step s, in millionths of [`ONE`] to the third.
 pub(crate) fn across(x1: u32, x2: u32, s: u32) -> u128

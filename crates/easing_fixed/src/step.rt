@@ -50,7 +50,7 @@ impl StepShape {
         ensures value { result ≡ self.now.count }
 
         // What holds of every shape: `new` would take its parts.
-        ensures taken { step_refusal self.now ≡ None }
+        ensures in_range { step_refusal self.now ≡ None }
     {
         self.count
     }

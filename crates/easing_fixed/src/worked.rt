@@ -2,10 +2,10 @@
 #![tactic(auto, unfolding(crate::specs::Easings::eased, crate::specs::Steps::step_value, crate::specs::Cubics::cubic_value, crate::specs::Cubics::place))]
 
 ghost use Rattle.std.specs.Prelude.{◌≡◌, pos, negsuc, Some};
-ghost use Rattle.easing_fixed.specs.Cubics.{cubic_parts, cubic_refusal, place};
+ghost use Rattle.easing_fixed.specs.Cubics.{cubic_refusal, place};
 ghost use Rattle.easing_fixed.specs.Easings.{eased};
 ghost use Rattle.easing_fixed.specs.Steps.{step_parts, step_refusal};
-ghost use Rattle.easing_fixed.specs.Worked.{upright, ease_out, undershooting};
+ghost use Rattle.easing_fixed.specs.Worked.{upright, ease_out, undershooting, too_far, too_deep};
 ghost use Rattle.easing_fixed.specs.declared.easing.Easing.{Easing};
 ghost use Rattle.easing_fixed.specs.declared.fault.EasingFault.{EasingFault};
 ghost use Rattle.easing_fixed.specs.declared.position.StepPosition.{StepPosition};
@@ -30,7 +30,7 @@ pub fn upright_cubic()
     ensures end { eased (Easing.Cubic upright) 1048576 ≡ pos 1048576 }
 {}
 
-/// Half the way along ease-out, from one step before to the half: the place is the greatest, and not the nearest.
+/// About the middle of ease-out: the place is the greatest step that is not past the progress, and not the nearest.
 pub fn ease_out_cubic()
     ensures before_place { place 0 580000 359137 ≡ 524287 }
     ensures before { eased (Easing.Cubic ease_out) 359137 ≡ pos 524286 }
@@ -41,6 +41,6 @@ pub fn ease_out_cubic()
 /// A curve may leave the range of its progress, and numbers out of range make none.
 pub fn undershooting_cubic()
     ensures half { eased (Easing.Cubic undershooting) 524288 ≡ negsuc 3801087 }
-    ensures far { cubic_refusal (cubic_parts (pos 1000001) (pos 0) (pos 0) (negsuc 10000000)) ≡ Some EasingFault.XOutOfRange }
-    ensures deep { cubic_refusal (cubic_parts (pos 0) (pos 0) (pos 0) (negsuc 10000000)) ≡ Some EasingFault.YOutOfRange }
+    ensures too_far { cubic_refusal too_far ≡ Some EasingFault.XOutOfRange }
+    ensures too_deep { cubic_refusal too_deep ≡ Some EasingFault.YOutOfRange }
 {}
