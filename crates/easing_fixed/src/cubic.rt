@@ -2,7 +2,7 @@ ghost use Rattle.std.specs.Prelude.{◌≡◌, ◌*◌, ◌^◌, ◌≤◌, pos,
 ghost use Rattle.std.specs.Result.{result_err};
 ghost use Rattle.easing_fixed.specs.Cubics.{cubic_parts, cubic_refusal, is_x, is_y, cubic_value};
 
-use crate::curve::{self, STEP};
+use crate::curve::{self, UNIT};
 use crate::{EasingFault, ONE};
 use std::marker::Model;
 
@@ -93,7 +93,7 @@ impl CubicShape {
         ensures size { unsigned_abs result ≤ 10 * ONE }
     {
         let place = curve::place(self.x1, self.x2, p);
-        curve::height(self.y1, self.y2, place).div_euclid(i128::from(STEP)) as i64
+        curve::height(self.y1, self.y2, place).div_euclid(i128::from(UNIT)) as i64
     }
 }
 

@@ -8,8 +8,8 @@ use crate::ONE;
 // The control number of the curve's end, in millionths.
 const END: u32 = 1_000_000;
 
-/// How far one step across or up is, in the unit of [`across`] and [`height`].
-pub(crate) const STEP: u64 = ONE as u64 * ONE as u64 * END as u64;
+/// What 1 of a progress or a value is, in the unit of [`across`] and [`height`].
+pub(crate) const UNIT: u64 = ONE as u64 * ONE as u64 * END as u64;
 
 /// How far across the curve is at step s, in millionths of [`ONE`] to the third.
 pub(crate) fn across(x1: u32, x2: u32, s: u32) -> u128
@@ -43,7 +43,7 @@ pub(crate) fn place(x1: u32, x2: u32, p: u32) -> u32
     ensures value { result ≡ place x1 x2 p }
     ensures within { result ≤ ONE }
 {
-    let bound = u128::from(p) * u128::from(STEP);
+    let bound = u128::from(p) * u128::from(UNIT);
     // The curve is not past p at `low`, and it is from `high` on.
     let mut low = 0;
     let mut high = ONE + 1;
