@@ -33,3 +33,20 @@ fn names_compare_by_what_they_say(rt: HostRuntime) {
     };
     assert_ne!(rt; entry, other);
 }
+
+fn is_shared<T: Send + Sync>() {}
+
+#[test]
+fn names_cross_threads() {
+    is_shared::<ElementId>();
+    is_shared::<ModelId>();
+    is_shared::<GroupId>();
+    is_shared::<TimelineId>();
+    is_shared::<Property>();
+    is_shared::<Lane>();
+    is_shared::<Tree>();
+    is_shared::<LimitName>();
+    is_shared::<AnimEvent>();
+    is_shared::<EntryKind>();
+    is_shared::<Entry>();
+}

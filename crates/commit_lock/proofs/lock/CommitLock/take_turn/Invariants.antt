@@ -1,0 +1,6 @@
+use Rattle.std.proofs.Common.{◌≡◌}
+use Rattle.commit_lock.proofs.lock.CommitLock.take_turn.Given as goal
+
+-- a try that found the turn taken changed nothing
+abbrev pub invariant-loop : goal.invariant-loop
+invariant-loop g l = (l.place.table_id ≡ l.initial.place.table_id) × (l.place.me ≡ l.initial.place.me)

@@ -1,0 +1,6 @@
+pub mod Journals
+pub mod Views
+pub mod Rules
+pub mod Steps
+pub mod Seats
+pub mod Notes
