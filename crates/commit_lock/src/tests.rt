@@ -2,7 +2,7 @@ mod diary;
 mod lanes;
 
 use self::diary::Diary;
-use self::lanes::{note_alone, note_both};
+use self::lanes::{note_both, note_in_turn};
 use crate::{CommitLock, Held, Journaled, LaneSeat};
 use anim_names::{Entry, Lane};
 use std::process::Abort;
@@ -34,8 +34,11 @@ fn two_threads_make_a_hundred_sections_each(rt: HostRuntime) -> Result<(), Fail>
 
 #[test]
 fn one_thread_makes_the_sections_of_both_lanes(rt: HostRuntime) -> Result<(), Fail> {
-    let diary = note_alone(&rt, rt.alloc(), Diary::new(rt.alloc(), 7), SECTIONS)?;
+    let diary = note_in_turn(&rt, rt.alloc(), Diary::new(rt.alloc(), 7), SECTIONS)?;
     expect_all(&rt, diary.entries());
+    for pair in diary.entries().windows(2) {
+        assert_ne!(rt; pair[0].lane, pair[1].lane);
+    }
     Ok(())
 }
 

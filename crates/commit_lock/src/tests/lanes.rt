@@ -1,4 +1,4 @@
-ghost use Rattle.std.specs.Prelude.{◌≡◌, [], OnOk, IfOk};
+ghost use Rattle.std.specs.Prelude.{◌≡◌, ◌+◌, ◌^◌, ◌<◌, [], OnOk, IfOk};
 ghost use Rattle.anim_names.specs.declared.lane.Lane.TheVariants.{Main, Compositor};
 ghost use Rattle.commit_lock.specs.Journals.{entries_of};
 ghost use Rattle.commit_lock.specs.Notes.{note_of, notes};
@@ -23,9 +23,31 @@ fn note_of(lane: Lane, upto: u32) -> Entry
     Entry { lane, upto, kind }
 }
 
-// Makes so many sections, with an entry in each, and between two of them leaves the processor to the other lane. It
-// stops where memory runs out.
+// Makes one section more than were made, with an entry.
 #[tactic(auto, using(crate::proofs::Grown::grown_by_one, crate::proofs::Grown::grown_by_none))]
+fn make_section<V: Notes, R: Wait>(
+    rt: &R,
+    lock: &CommitLock<V>,
+    seat: LaneSeat<V>,
+    lane: Lane,
+    made: u32,
+) -> (LaneSeat<V>, Result<(), AllocError>)
+    requires lock { seat.lock ≡ lock.now }
+    requires mine { (seat.lane ≡ lane) × (seat.mine ≡ notes lane made) }
+    requires upto { made + 1 < 2 ^ 32 }
+    ensures seat { (result.0.lock ≡ seat.lock) × (result.0.lane ≡ lane) × (result.0.subject ≡ seat.subject) }
+    ensures mine { OnOk result.1 (result.0.mine ≡ notes lane (made + 1)) }
+{
+    let mut held = lock.acquire(rt, seat);
+    let noted = held.value().note(note_of(lane, made + 1));
+    match noted {
+        Ok(()) => (lock.release(held), Ok(())),
+        Err(full) => (lock.release(held), Err(full)),
+    }
+}
+
+// Makes so many sections, and between two of them leaves the processor to the other lane. It stops where memory runs
+// out.
 fn make_sections<V: Notes, R: Wait>(
     rt: &R,
     lock: &CommitLock<V>,
@@ -39,11 +61,11 @@ fn make_sections<V: Notes, R: Wait>(
     ensures mine { OnOk result.1 (result.0.mine ≡ notes lane count) }
 {
     for made in 0..count {
-        let mut held = lock.acquire(rt, seat);
-        if let Err(full) = held.value().note(note_of(lane, made + 1)) {
-            return (lock.release(held), Err(full));
+        let (after, noted) = make_section(rt, lock, seat, lane, made);
+        seat = after;
+        if noted.is_err() {
+            return (seat, noted);
         }
-        seat = lock.release(held);
         thread::yield_now();
     }
     (seat, Ok(()))
@@ -104,8 +126,8 @@ pub fn note_both<V: Notes + Send, R: Threads + Wait + Sync>(
     Ok(value)
 }
 
-/// The same on one thread, the lanes' sections in turn.
-pub fn note_alone<V: Notes, R: Wait>(
+/// The same on one thread: a section of main, then one of the compositor, and so on.
+pub fn note_in_turn<V: Notes, R: Wait>(
     rt: &R,
     alloc: Global,
     value: V,
@@ -115,11 +137,14 @@ pub fn note_alone<V: Notes, R: Wait>(
     ensures main { IfOk result (λ v. entries_of Main (V.journal v) ≡ notes Main count) }
     ensures compositor { IfOk result (λ v. entries_of Compositor (V.journal v) ≡ notes Compositor count) }
 {
-    let (lock, main, compositor) = CommitLock::new(alloc, value)?;
-    let (main, first) = make_sections(rt, &lock, main, Lane::Main, count);
-    let (compositor, second) = make_sections(rt, &lock, compositor, Lane::Compositor, count);
-    let value = lock.close(main, compositor);
-    first?;
-    second?;
-    Ok(value)
+    let (lock, mut main, mut compositor) = CommitLock::new(alloc, value)?;
+    for made in 0..count {
+        let (after, noted) = make_section(rt, &lock, main, Lane::Main, made);
+        noted?;
+        main = after;
+        let (after, noted) = make_section(rt, &lock, compositor, Lane::Compositor, made);
+        noted?;
+        compositor = after;
+    }
+    Ok(lock.close(main, compositor))
 }
