@@ -1,0 +1,9 @@
+//! What lies between two values: blends of numbers and of opacities, in whole numbers.
+//!
+//! A progress in 2^20 says how far a value has come from one key to the next. A blend at 0 is the value that
+//! it comes from, at 2^20 the value that it goes to, and beyond these it goes on as far as the range of the
+//! value allows.
+#![tactic(auto)]
+
+pub mod ends;
+pub mod worked;
