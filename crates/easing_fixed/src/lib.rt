@@ -1,0 +1,22 @@
+//! Step and cubic Bézier easing in fixed point: exact, in whole numbers, without memory.
+//!
+//! An [`Easing`] takes a progress from 0 to [`ONE`], which stands for 1, and gives a whole number in the same
+//! unit. Its shapes keep their numbers within their ranges. Contracts see a shape as its numbers and cite
+//! `eased`; that the cubic's place is the greatest one is the law of [`laws::place_is_greatest`].
+#![tactic(auto)]
+
+pub mod cubic;
+pub mod easing;
+pub mod fault;
+pub mod position;
+pub mod step;
+pub mod worked;
+
+pub use cubic::CubicShape;
+pub use easing::Easing;
+pub use fault::EasingFault;
+pub use position::StepPosition;
+pub use step::StepShape;
+
+/// What stands for 1, in a progress and in what an easing gives: 2^20.
+pub const ONE: u32 = 1 << 20;

@@ -1,0 +1,10 @@
+/// Where a local time lies among an animation's iterations.
+#[derive(Clone, Copy, Debug, PartialEq, Eq, Hash)]
+pub enum Phase {
+    /// Before their beginning.
+    Before,
+    /// Within them.
+    Active,
+    /// At their end or later.
+    After,
+}
