@@ -14,13 +14,11 @@ pub fn overshoot_is_blended()
     ensures rising { blend_opacity 0 1000000 OVERSHOOT ≡ 0 }
     ensures falling { blend_opacity 1000000 0 OVERSHOOT ≡ 1000000 }
     ensures moving { blend_number (pos 0) (pos 1000) OVERSHOOT ≡ MOVED_BACK }
-{
-}
+{}
 
 /// How far a linear opacity has come a third and a half of the way, rounded down.
 pub fn opacity_is_rounded_down()
     ensures a_third { blend_opacity 0 1000000 (pos 349524) ≡ 333332 }
     ensures a_half { blend_opacity 0 1000000 (pos 524288) ≡ 500000 }
     ensures falling { blend_opacity 1000000 0 (pos 875540) ≡ 165019 }
-{
-}
+{}
