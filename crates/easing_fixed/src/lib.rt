@@ -6,8 +6,10 @@
 #![tactic(auto)]
 
 pub mod cubic;
+mod curve;
 pub mod easing;
 pub mod fault;
+pub mod laws;
 pub mod position;
 pub mod step;
 pub mod worked;
