@@ -4,7 +4,11 @@
 //! operations match; a missing operation is its neutral one.
 #![tactic(auto)]
 
+pub mod ends;
 pub mod op;
 pub mod worked;
 
 pub use op::TransformOp;
+
+#[cfg(test)]
+mod tests;

@@ -10,7 +10,7 @@ use Rattle.anim_names.specs.declared.lane.Lane.TheVariants.{Main, Compositor}
 use Rattle.tree_commit.specs.declared.mark.Mark.{Mark}
 use Rattle.tree_commit.specs.Laws.{GoesOn, HeardOnce, batches, batch_of_step, batch_of_letter}
 use Rattle.tree_commit.specs.Marks.{event_of}
-use Rattle.tree_commit.specs.Scripts.{MainDoes, Edit, Commit, Drain, ScriptLists}
+use Rattle.tree_commit.specs.Scripts.{StepOfMain, EditStep, CommitStep, DrainStep, ScriptLists}
 use Rattle.tree_commit.specs.Runs.{Lanes, MainLane, beginning, after_letter, after, main_step, main_takes, after_drain, unheard_events, closing_report}
 use Rattle.tree_commit.proofs.WordLemmas.{letter_grows}
 
@@ -29,24 +29,24 @@ heard-unheard marks lane (rest, e) =
     ap (λ events. lane.heard ++ drop (length lane.heard) events) e ∙ ap (λ events. lane.heard ++ events) (drop-append_seam lane.heard rest) ∙ sym e
 
 -- what main has heard after a step is what it had heard and then the step's batch
-takes_batch : (marks : List Mark) (left : List MainDoes) (lane : MainLane) → (main_takes marks left lane).heard ≡ lane.heard ++ all_of (batch_of_step left (unheard_events marks lane))
+takes_batch : (marks : List Mark) (left : List StepOfMain) (lane : MainLane) → (main_takes marks left lane).heard ≡ lane.heard ++ all_of (batch_of_step left (unheard_events marks lane))
 unfolding after_drain
 takes_batch marks [] lane = sym (append-nil lane.heard)
-takes_batch marks (Edit change ∷ left) lane = sym (append-nil lane.heard)
-takes_batch marks (Commit ∷ left) lane = sym (append-nil lane.heard)
-takes_batch marks (Drain ∷ left) lane = ap (λ events. lane.heard ++ events) (sym (append-nil (unheard_events marks lane)))
+takes_batch marks (EditStep change ∷ left) lane = sym (append-nil lane.heard)
+takes_batch marks (CommitStep ∷ left) lane = sym (append-nil lane.heard)
+takes_batch marks (DrainStep ∷ left) lane = ap (λ events. lane.heard ++ events) (sym (append-nil (unheard_events marks lane)))
 
 letter_batch : (lanes : Lanes) (letter : Lane) → (after_letter lanes letter).main.heard ≡ lanes.main.heard ++ all_of (batch_of_letter lanes letter)
 unfolding main_step
 letter_batch lanes Main = takes_batch lanes.compositor.marks lanes.main.left lanes.main
 letter_batch lanes Compositor = sym (append-nil lanes.main.heard)
 
-takes_first : (marks : List Mark) (left : List MainDoes) (lane : MainLane) → AreHeardFirst marks lane → AreHeardFirst marks (main_takes marks left lane)
+takes_first : (marks : List Mark) (left : List StepOfMain) (lane : MainLane) → AreHeardFirst marks lane → AreHeardFirst marks (main_takes marks left lane)
 unfolding after_drain AreHeardFirst
 takes_first marks [] lane h = h
-takes_first marks (Edit change ∷ left) lane h = h
-takes_first marks (Commit ∷ left) lane h = h
-takes_first marks (Drain ∷ left) lane h = ([], sym (append-nil _ ∙ heard-unheard marks lane h))
+takes_first marks (EditStep change ∷ left) lane h = h
+takes_first marks (CommitStep ∷ left) lane h = h
+takes_first marks (DrainStep ∷ left) lane h = ([], sym (append-nil _ ∙ heard-unheard marks lane h))
 
 more_marks : (marks more : List Mark) (lane : MainLane) → AreHeardFirst marks lane → AreHeardFirst (marks ++ more) lane
 unfolding AreHeardFirst

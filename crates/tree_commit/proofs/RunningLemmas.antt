@@ -10,7 +10,7 @@ use Rattle.tree_commit.specs.declared.mark.Mark.TheVariants.{Finished, Aborted}
 use Rattle.tree_commit.specs.declared.step.CompositorStep.{CompositorStep}
 use Rattle.tree_commit.specs.declared.step.CompositorStep.TheVariants.{Pull, Activate, Tick}
 use Rattle.keyframe_model.specs.Models.{Spec}
-use Rattle.tree_commit.specs.Trees.{TreeLists, Committed, members, groups, has_element, has_model}
+use Rattle.tree_commit.specs.Trees.{TreeLists, Committed, members_of, groups_of, has_element, has_model}
 use Rattle.tree_commit.specs.Marks.{starts, ends, is_started, is_ended, is_running, is_ready, is_lost, finishing_models, lost_models, start_mark, group_marks, finish_marks, start_marks, marks_of_tick, marks_of_activation}
 use Rattle.tree_commit.specs.Laws.{RunningIsActive}
 use Rattle.tree_commit.specs.Scripts.{ScriptLists}
@@ -59,7 +59,7 @@ group_start : (active : TreeLists) (pending : Option Committed) (marks : List Ma
 unfolding StartsHere
 group_start active pending marks tick group id h = go (is_ready active pending marks group) h
   where
-    go : (ready : Bool) → is_started (cond ready (map (start_mark active tick) (members active group)) []) id ≡ true → has_model active id ≡ true
+    go : (ready : Bool) → is_started (cond ready (map (start_mark active tick) (members_of active group)) []) id ≡ true → has_model active id ≡ true
     go true e = any-map-filter (starts id) (start_mark active tick) (λ model. id == model.id) (λ model. group == model.group) (λ model. refl) active.models e
     go false e = absurd (false≢true e)
 
@@ -78,7 +78,7 @@ tick_start : (active : TreeLists) (pending : Option Committed) (marks : List Mar
 unfolding marks_of_tick
 tick_start active pending marks tick =
     both_start active _ _ (finish_start active marks tick)
-    (groups_start active pending (marks ++ finish_marks active marks tick) tick (groups active))
+    (groups_start active pending (marks ++ finish_marks active marks tick) tick (groups_of active))
 
 -- ---- what stays along a run
 

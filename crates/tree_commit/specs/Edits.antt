@@ -55,7 +55,7 @@ tree_after tree (RemoveModel id) = without_model tree id
 
 -- What all models ever added to a group have: one element, one timeline and one given start, and properties that differ.
 -- Beside it stands how many commits there were when the first of them was added.
-pub record Shape : Type 0 where
+pub record GroupParts : Type 0 where
   pub group : ℕ
   pub element : ℕ
   pub timeline : ℕ
@@ -70,7 +70,7 @@ pub record Book : Type 0 where
   pub elements_added : ℕ
   pub timelines : List ℕ
   pub models : List ℕ
-  pub groups : List Shape
+  pub groups : List GroupParts
   pub commits : ℕ
 
 abbrev pub new_book : Book
@@ -79,30 +79,30 @@ new_book = record { elements = []; elements_added = 0; timelines = []; models = 
 abbrev pub is_in : ℕ → List ℕ → Bool
 is_in id ids = list_any (λ other. id == other) ids
 
-abbrev pub shape_of : Book → ℕ → Option Shape
-shape_of book group = find (λ shape. group == shape.group) book.groups
+abbrev pub parts_of : Book → ℕ → Option GroupParts
+parts_of book group = find (λ parts. group == parts.group) book.groups
 
 -- ---- refusals
 
 -- a commit came since the first model of the group
-abbrev pub is_closed : ℕ → Option Shape → Bool
+abbrev pub is_closed : ℕ → Option GroupParts → Bool
 is_closed commits None = false
-is_closed commits (Some shape) = nat_lt shape.commits_before commits
+is_closed commits (Some parts) = nat_lt parts.commits_before commits
 
 -- the group has another element, timeline or given start, or has the property already
-abbrev pub is_mixed : ℕ → ℕ → Option ℕ → Property → Option Shape → Bool
+abbrev pub is_mixed : ℕ → ℕ → Option ℕ → Property → Option GroupParts → Bool
 is_mixed element timeline start property None = false
-is_mixed element timeline start property (Some shape) =
-    not (element == shape.element && timeline == shape.timeline && option_eq nat_eq start shape.start)
-    || list_any (same_property property) shape.properties
+is_mixed element timeline start property (Some parts) =
+    not (element == parts.element && timeline == parts.timeline && option_eq nat_eq start parts.start)
+    || list_any (same_property property) parts.properties
 
 -- why no model with these parts may be added: the first reason in this order
 unfoldable pub model_refusal : Book → ℕ → ℕ → ℕ → ℕ → Option ℕ → Property → Option EditRefusal
 model_refusal book id group element timeline start property =
     if is_in id book.models then Some ModelIdUsed else
     if not (is_in timeline book.timelines) then Some TimelineUnknown else
-    if is_closed book.commits (shape_of book group) then Some GroupClosed else
-    if is_mixed element timeline start property (shape_of book group) then Some GroupMixed else
+    if is_closed book.commits (parts_of book group) then Some GroupClosed else
+    if is_mixed element timeline start property (parts_of book group) then Some GroupMixed else
     if nat_le 1024 (length book.models) then Some (Limit Models) else
     None
 
@@ -125,8 +125,8 @@ edit_refusal book (RemoveModel id) = if is_in id book.models then None else Some
 
 -- ---- what is kept of an edit
 
-abbrev pub new_shape : ℕ → Spec → Shape
-new_shape commits model = record {
+abbrev pub new_parts : ℕ → Spec → GroupParts
+new_parts commits model = record {
   group = model.group;
   element = model.element;
   timeline = model.timeline;
@@ -136,11 +136,11 @@ new_shape commits model = record {
 }
 
 -- the groups with one more model, the first of its group or a further one
-abbrev pub with_member : ℕ → Spec → List Shape → List Shape
-with_member commits model [] = new_shape commits model ∷ []
-with_member commits model (shape ∷ shapes) =
-    if model.group == shape.group then record shape { properties = shape.properties ++ property_of model ∷ [] } ∷ shapes else
-    shape ∷ with_member commits model shapes
+abbrev pub with_member : ℕ → Spec → List GroupParts → List GroupParts
+with_member commits model [] = new_parts commits model ∷ []
+with_member commits model (parts ∷ others) =
+    if model.group == parts.group then record parts { properties = parts.properties ++ property_of model ∷ [] } ∷ others else
+    parts ∷ with_member commits model others
 
 -- the book after an edit that was not refused
 unfoldable pub book_after : Book → Change → Book

@@ -4,7 +4,7 @@ use Rattle.anim_names.specs.declared.event.AnimEvent.{AnimEvent}
 use Rattle.anim_names.specs.declared.lane.Lane.{Lane}
 use Rattle.anim_names.specs.declared.lane.Lane.TheVariants.{Main, Compositor}
 use Rattle.tree_commit.specs.Trees.{has_model}
-use Rattle.tree_commit.specs.Scripts.{MainDoes, Edit, Commit, Drain, ScriptLists, never_fall_from}
+use Rattle.tree_commit.specs.Scripts.{StepOfMain, EditStep, CommitStep, DrainStep, ScriptLists, never_fall_from}
 use Rattle.tree_commit.specs.Marks.{is_running}
 use Rattle.tree_commit.specs.Runs.{Lanes, ReportLists, unheard_events, beginning, after_letter, after, report_of}
 
@@ -27,11 +27,11 @@ CommitNumbersNeverFall report = IsTrue (never_fall_from 0 (map (λ frame. frame.
 -- ---- each event is heard once, in order
 
 -- what main's next step hears of the unheard events: a drain hears them all
-abbrev pub batch_of_step : List MainDoes → List AnimEvent → List (List AnimEvent)
+abbrev pub batch_of_step : List StepOfMain → List AnimEvent → List (List AnimEvent)
 batch_of_step [] unheard = []
-batch_of_step (Edit change ∷ left) unheard = []
-batch_of_step (Commit ∷ left) unheard = []
-batch_of_step (Drain ∷ left) unheard = unheard ∷ []
+batch_of_step (EditStep change ∷ left) unheard = []
+batch_of_step (CommitStep ∷ left) unheard = []
+batch_of_step (DrainStep ∷ left) unheard = unheard ∷ []
 
 -- what the step of a letter hears
 abbrev pub batch_of_letter : Lanes → Lane → List (List AnimEvent)

@@ -9,7 +9,7 @@ use Rattle.keyframe_model.specs.Models.{Spec, property_of, same_property}
 use Rattle.tree_commit.specs.declared.mark.Mark.{Mark}
 use Rattle.tree_commit.specs.declared.mark.Mark.TheVariants.{Started, Finished, Aborted}
 use Rattle.tree_commit.specs.declared.shown.Shown.{Shown}
-use Rattle.tree_commit.specs.Trees.{TreeLists, Committed, has_element, has_model, has_group, members, groups, time_of, local_time}
+use Rattle.tree_commit.specs.Trees.{TreeLists, Committed, has_element, has_model, has_group, members_of, groups_of, time_of, local_time}
 
 -- ---- what one mark says
 
@@ -126,7 +126,7 @@ unfoldable pub is_ready : TreeLists → Option Committed → List Mark → ℕ �
 is_ready active pending marks group =
     has_group active group
     && not (list_any (starts_in group) marks)
-    && list_all (may_start active pending marks) (members active group)
+    && list_all (may_start active pending marks) (members_of active group)
 
 -- ---- the new marks of a tick: first what finishes
 
@@ -137,7 +137,7 @@ is_over active tick model (Some shown) = is_done model.timing (local_time active
 
 -- the running models of a group; all are in the active tree, by a law of these definitions
 abbrev pub running_members : TreeLists → List Mark → ℕ → List Spec
-running_members active marks group = filter (λ model. is_running marks model.id) (members active group)
+running_members active marks group = filter (λ model. is_running marks model.id) (members_of active group)
 
 -- each running model of the group is done
 abbrev pub are_over : TreeLists → List Mark → ℕ → ℕ → Bool
@@ -167,7 +167,7 @@ start_mark active tick model =
 -- A group that is ready starts as a whole: each of its models in the active tree.
 abbrev pub group_marks : TreeLists → Option Committed → List Mark → ℕ → ℕ → List Mark
 group_marks active pending marks tick group =
-    if is_ready active pending marks group then map (start_mark active tick) (members active group) else []
+    if is_ready active pending marks group then map (start_mark active tick) (members_of active group) else []
 
 -- The groups in turn, each over the marks so far: one that starts blocks the ones behind it.
 unfoldable pub start_marks : TreeLists → Option Committed → List Mark → ℕ → List ℕ → List Mark
@@ -180,7 +180,7 @@ start_marks active pending marks tick (group ∷ behind) =
 unfoldable pub marks_of_tick : TreeLists → Option Committed → List Mark → ℕ → List Mark
 marks_of_tick active pending marks tick =
     let finished = finish_marks active marks tick in
-    finished ++ start_marks active pending (marks ++ finished) tick (groups active)
+    finished ++ start_marks active pending (marks ++ finished) tick (groups_of active)
 
 -- ---- the new marks of an activation
 

@@ -11,7 +11,7 @@ use Rattle.tree_commit.specs.declared.step.CompositorStep.{CompositorStep}
 use Rattle.tree_commit.specs.declared.step.CompositorStep.TheVariants.{Pull, Activate, Tick}
 use Rattle.tree_commit.specs.Trees.{TreeLists, Committed, empty_tree, empty_commit, model_with}
 use Rattle.tree_commit.specs.Edits.{tree_after, without_model}
-use Rattle.tree_commit.specs.Scripts.{MainDoes, Edit, Commit, Drain, ScriptLists}
+use Rattle.tree_commit.specs.Scripts.{StepOfMain, EditStep, CommitStep, DrainStep, ScriptLists}
 use Rattle.tree_commit.specs.Marks.{event_of, marks_of_tick, marks_of_activation}
 use Rattle.tree_commit.specs.Frames.{DrawnFrame, frame_at}
 
@@ -38,7 +38,7 @@ tree_after_hearing tree event = tree_after_verdict tree event (model_with tree (
 -- what stands in main's lane: the steps that are left, the tree, the commits in order, the events heard in order, and how
 -- many they were after each drain
 pub record MainLane : Type 0 where
-  pub left : List MainDoes
+  pub left : List StepOfMain
   pub tree : TreeLists
   pub commits : List Committed
   pub heard : List AnimEvent
@@ -63,12 +63,12 @@ after_drain marks lane =
     }
 
 -- a step of main, over the marks so far
-abbrev pub main_makes : List Mark → MainDoes → MainLane → MainLane
-main_makes marks (Edit change) lane = record lane { tree = tree_after lane.tree change }
-main_makes marks Commit lane = after_commit lane
-main_makes marks Drain lane = after_drain marks lane
+abbrev pub main_makes : List Mark → StepOfMain → MainLane → MainLane
+main_makes marks (EditStep change) lane = record lane { tree = tree_after lane.tree change }
+main_makes marks CommitStep lane = after_commit lane
+main_makes marks DrainStep lane = after_drain marks lane
 
-abbrev pub main_takes : List Mark → List MainDoes → MainLane → MainLane
+abbrev pub main_takes : List Mark → List StepOfMain → MainLane → MainLane
 main_takes marks [] lane = lane
 main_takes marks (step ∷ left) lane = main_makes marks step (record lane { left = left })
 

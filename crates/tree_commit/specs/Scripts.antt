@@ -9,14 +9,14 @@ use Rattle.tree_commit.specs.Edits.{Change, Book, new_book, edit_refusal, book_a
 -- ---- scripts
 
 -- a step of main
-pub data MainDoes : Type 0 where
-  Edit : Change → MainDoes
-  Commit : MainDoes
-  Drain : MainDoes
+pub data StepOfMain : Type 0 where
+  EditStep : Change → StepOfMain
+  CommitStep : StepOfMain
+  DrainStep : StepOfMain
 
 -- a script: main's steps, the compositor's steps, and a word, in which each letter stands for its lane's next step
 pub record ScriptLists : Type 0 where
-  pub main : List MainDoes
+  pub main : List StepOfMain
   pub compositor : List CompositorStep
   pub word : List Lane
 
@@ -38,23 +38,23 @@ pub record IsWordOf (main compositor : ℕ) (word : List Lane) : Type 0 where
 -- ---- main's steps
 
 -- what edits are checked against after a step of main: a drain changes nothing of it
-abbrev pub book_after_step : Book → MainDoes → Book
-book_after_step book (Edit change) = book_after book change
-book_after_step book Commit = book_after_commit book
-book_after_step book Drain = book
+abbrev pub book_after_step : Book → StepOfMain → Book
+book_after_step book (EditStep change) = book_after book change
+book_after_step book CommitStep = book_after_commit book
+book_after_step book DrainStep = book
 
 -- the same after all steps of main
-abbrev pub book_of : List MainDoes → Book
+abbrev pub book_of : List StepOfMain → Book
 book_of steps = fold book_after_step new_book steps
 
 -- an edit that is not refused, one of at most 256 commits, or a drain
-abbrev pub is_allowed : Book → MainDoes → Bool
-is_allowed book (Edit change) = is_none (edit_refusal book change)
-is_allowed book Commit = nat_lt book.commits 256
-is_allowed book Drain = true
+abbrev pub is_allowed : Book → StepOfMain → Bool
+is_allowed book (EditStep change) = is_none (edit_refusal book change)
+is_allowed book CommitStep = nat_lt book.commits 256
+is_allowed book DrainStep = true
 
 -- each step is allowed when its turn comes
-unfoldable pub are_allowed : Book → List MainDoes → Bool
+unfoldable pub are_allowed : Book → List StepOfMain → Bool
 are_allowed book [] = true
 are_allowed book (step ∷ steps) = is_allowed book step && are_allowed (book_after_step book step) steps
 
@@ -66,8 +66,8 @@ time_of_tick Activate = None
 time_of_tick (Tick time) = Some time
 
 -- the times of the ticks, in order
-abbrev pub ticks : List CompositorStep → List ℕ
-ticks steps = filter_map time_of_tick steps
+abbrev pub ticks_of : List CompositorStep → List ℕ
+ticks_of steps = filter_map time_of_tick steps
 
 -- the first number is at least this one, and each further one at least the one before it
 abbrev pub never_fall_from : ℕ → List ℕ → Bool
@@ -87,7 +87,7 @@ pub record IsWellFormed (script : ScriptLists) : Type 0 where
   pub main_steps : length script.main ≤ 10000
   pub compositor_steps : length script.compositor ≤ 10000
   pub edits : IsTrue (are_allowed new_book script.main)
-  pub order : IsTrue (never_fall_from 0 (ticks script.compositor))
-  pub times : IsTrue (are_at_most (2 ^ 50) (ticks script.compositor))
-  pub frames : length (ticks script.compositor) * (book_of script.main).elements_added ≤ 200000
+  pub order : IsTrue (never_fall_from 0 (ticks_of script.compositor))
+  pub times : IsTrue (are_at_most (2 ^ 50) (ticks_of script.compositor))
+  pub frames : length (ticks_of script.compositor) * (book_of script.main).elements_added ≤ 200000
   pub word : IsWordOf (length script.main) (length script.compositor) script.word

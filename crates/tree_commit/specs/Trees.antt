@@ -67,8 +67,8 @@ local_time tree tick model start = time_of tree tick model -ℤ start
 -- ---- groups
 
 -- the models of a group, in the tree's order
-abbrev pub members : TreeLists → ℕ → List Spec
-members tree group = filter (λ model. group == model.group) tree.models
+abbrev pub members_of : TreeLists → ℕ → List Spec
+members_of tree group = filter (λ model. group == model.group) tree.models
 
 abbrev pub has_group : TreeLists → ℕ → Bool
 has_group tree group = list_any (λ model. group == model.group) tree.models
@@ -79,5 +79,5 @@ with_group_of groups model =
     if list_any (λ group. model.group == group) groups then groups else groups ++ model.group ∷ []
 
 -- the groups of a tree's models, in the order of their first models
-abbrev pub groups : TreeLists → List ℕ
-groups tree = fold with_group_of [] tree.models
+abbrev pub groups_of : TreeLists → List ℕ
+groups_of tree = fold with_group_of [] tree.models

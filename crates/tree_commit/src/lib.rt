@@ -15,3 +15,6 @@ pub use mark::Mark;
 pub use refusal::EditRefusal;
 pub use shown::Shown;
 pub use step::CompositorStep;
+
+#[cfg(test)]
+mod tests;
