@@ -2,10 +2,9 @@ ghost use Rattle.std.specs.Prelude.{◌≡◌, ◌*◌, ◌^◌, ◌≤◌, pos,
 ghost use Rattle.std.specs.Result.{result_err};
 ghost use Rattle.easing_fixed.specs.Cubics.{cubic_parts, cubic_refusal, is_x, is_y, cubic_value};
 
-use std::marker::Model;
-
-use crate::curve::{self, STEP};
+use crate::curve::{self, UNIT};
 use crate::{EasingFault, ONE};
+use std::marker::Model;
 
 /// A cubic Bézier curve from (0, 0) to (1, 1) by its two control points, after CSS Easing Functions Level 1.
 ///
@@ -34,8 +33,8 @@ impl Model for CubicShape {
 }
 
 impl CubicShape {
-    /// Makes a curve with the control points (x1, y1) and (x2, y2): each x from 0 to 1,000,000 millionths, each y from
-    /// -10,000,000 to 10,000,000.
+    /// Makes a curve with the control points (x1, y1) and (x2, y2), in millionths: each x from 0 to 1,000,000, each
+    /// y from -10,000,000 to 10,000,000. The x's are judged first.
     pub fn new(x1: i64, y1: i64, x2: i64, y2: i64) -> Result<CubicShape, EasingFault>
         ensures refused { result_err result ≡ cubic_refusal (cubic_parts x1 y1 x2 y2) }
         ensures parts { IfOk result (λ shape. shape ≡ cubic_parts x1 y1 x2 y2) }
@@ -60,7 +59,7 @@ impl CubicShape {
         ensures value { result ≡ self.now.x1 }
 
         // What holds of every shape: `new` would take its parts.
-        ensures taken { cubic_refusal self.now ≡ None }
+        ensures in_range { cubic_refusal self.now ≡ None }
     {
         i64::from(self.x1)
     }
@@ -94,7 +93,7 @@ impl CubicShape {
         ensures size { unsigned_abs result ≤ 10 * ONE }
     {
         let place = curve::place(self.x1, self.x2, p);
-        curve::height(self.y1, self.y2, place).div_euclid(i128::from(STEP)) as i64
+        curve::height(self.y1, self.y2, place).div_euclid(i128::from(UNIT)) as i64
     }
 }
 

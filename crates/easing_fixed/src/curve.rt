@@ -8,8 +8,8 @@ use crate::ONE;
 // The control number of the curve's end, in millionths.
 const END: u32 = 1_000_000;
 
-/// How far one step across or up is, in the unit of [`across`] and [`height`].
-pub(crate) const STEP: u64 = 1_048_576 * 1_048_576 * 1_000_000;
+/// What 1 of a progress or a value is, in the unit of [`across`] and [`height`].
+pub(crate) const UNIT: u64 = ONE as u64 * ONE as u64 * END as u64;
 
 /// How far across the curve is at step s, in millionths of [`ONE`] to the third.
 pub(crate) fn across(x1: u32, x2: u32, s: u32) -> u128
@@ -30,7 +30,9 @@ pub(crate) fn height(y1: i32, y2: i32, s: u32) -> i128
     ensures value { result ≡ height ONE y1 y2 s }
     ensures size { unsigned_abs result ≤ ONE * ONE * ONE * 10 ^ 7 }
 {
-    weighed(first_weight(s), y1) + weighed(second_weight(s), y2) + weighed(end_weight(s), END as i32)
+    weighed(first_weight(s), y1)
+        + weighed(second_weight(s), y2)
+        + weighed(end_weight(s), END as i32)
 }
 
 /// The greatest step at which the curve is no farther across than p, by a bisection of at most 21 turns.
@@ -41,7 +43,7 @@ pub(crate) fn place(x1: u32, x2: u32, p: u32) -> u32
     ensures value { result ≡ place x1 x2 p }
     ensures within { result ≤ ONE }
 {
-    let bound = u128::from(p) * u128::from(STEP);
+    let bound = u128::from(p) * u128::from(UNIT);
     // The curve is not past p at `low`, and it is from `high` on.
     let mut low = 0;
     let mut high = ONE + 1;
@@ -56,8 +58,7 @@ pub(crate) fn place(x1: u32, x2: u32, p: u32) -> u32
     low
 }
 
-// How much the two control points and the end of the curve weigh at step s.
-
+// How much the first control point weighs at step s.
 fn first_weight(s: u32) -> u64
     requires { s ≤ ONE }
     ensures value { result ≡ first_weight ONE s }
@@ -67,6 +68,7 @@ fn first_weight(s: u32) -> u64
     3 * rest * rest * u64::from(s)
 }
 
+// How much the second control point weighs there.
 fn second_weight(s: u32) -> u64
     requires { s ≤ ONE }
     ensures value { result ≡ second_weight ONE s }
@@ -76,6 +78,7 @@ fn second_weight(s: u32) -> u64
     3 * (u64::from(ONE) - s) * s * s
 }
 
+// How much the end of the curve weighs there.
 fn end_weight(s: u32) -> u64
     requires { s ≤ ONE }
     ensures value { result ≡ end_weight s }

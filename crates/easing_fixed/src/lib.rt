@@ -22,3 +22,6 @@ pub use step::StepShape;
 
 /// What stands for 1, in a progress and in what an easing gives: 2^20.
 pub const ONE: u32 = 1 << 20;
+
+#[cfg(test)]
+mod tests;

@@ -2,9 +2,8 @@ ghost use Rattle.std.specs.Prelude.{◌≡◌, ◌+◌, ◌*◌, ◌^◌, ◌<�
 ghost use Rattle.std.specs.Result.{result_err};
 ghost use Rattle.easing_fixed.specs.Steps.{step_parts, step_refusal, jumps, step, step_value};
 
-use std::marker::Model;
-
 use crate::{EasingFault, ONE, StepPosition};
+use std::marker::Model;
 
 /// A step function: how many steps, and where it jumps.
 #[derive(Clone, Copy, Debug, PartialEq, Eq, Hash)]
@@ -51,7 +50,7 @@ impl StepShape {
         ensures value { result ≡ self.now.count }
 
         // What holds of every shape: `new` would take its parts.
-        ensures taken { step_refusal self.now ≡ None }
+        ensures in_range { step_refusal self.now ≡ None }
     {
         self.count
     }
