@@ -52,7 +52,7 @@ pub record Spec : Type 0 where
   pub policy : Policy
   pub curve : PropertyCurve
 
--- what may be a model
+-- what may be a model, beside what its timing and its curve may be
 pub record IsModel (model : Spec) : Type 0 where
   pub duration : model.timing.duration ≡ curve_duration model.curve
   pub start : IfSome model.start (λ start. start ≤ 2 ^ 50)

@@ -15,7 +15,12 @@ slanted = Skew (pos 1) (pos 2) ∷ []
 -- main's steps all come first
 abbrev pub script : ScriptLists
 script = record {
-  main = element 1 100000 ∷ CommitStep ∷ EditStep (AddElement 2 (record { opacity = 200000; transform = slanted })) ∷ CommitStep ∷ [];
+  main =
+      element 1 100000
+      ∷ CommitStep
+      ∷ EditStep (AddElement 2 (record { opacity = 200000; transform = slanted }))
+      ∷ CommitStep
+      ∷ [];
   compositor = Pull ∷ Activate ∷ Tick 0 ∷ Tick 1000 ∷ [];
   word = letters (codes "MMMMCCCC");
 }
