@@ -1,0 +1,14 @@
+//! When main drops a keyframe model of which it hears that it finished or was aborted.
+//!
+//! Each model has a [`Policy`], and a table of policies and events gives the [`Verdict`]. The table is this
+//! project's own.
+#![tactic(auto)]
+
+pub mod policy;
+pub mod verdict;
+
+pub use policy::Policy;
+pub use verdict::Verdict;
+
+#[cfg(test)]
+mod tests;

@@ -1,0 +1,8 @@
+/// What becomes of a model of which main hears an event.
+#[derive(Clone, Copy, Debug, PartialEq, Eq, Hash)]
+pub enum Verdict {
+    /// It stays in main's tree.
+    Keep,
+    /// It leaves main's tree.
+    Retire,
+}

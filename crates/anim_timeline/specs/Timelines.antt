@@ -1,0 +1,14 @@
+-- Timelines: clocks of animations, each of which shows 0 at a tick of its own. All times are in microseconds.
+use Rattle.std.specs.Prelude.{ℕ, ◌≤◌, ℤ, pos, ◌-ℤ◌}
+
+-- the last tick at which a frame may be drawn, and at which a timeline may show 0: 2^50, some 35 years
+abbrev pub last_time : ℕ
+last_time = 1125899906842624
+
+-- what may be the tick of a frame, or the zero of a timeline
+abbrev pub IsTime : ℕ → Type 0
+IsTime tick = tick ≤ last_time
+
+-- what a timeline shows at a tick, given the tick at which it shows 0; before that it shows less
+abbrev pub timeline_time : ℕ → ℕ → ℤ
+timeline_time origin tick = pos tick -ℤ pos origin

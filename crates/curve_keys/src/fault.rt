@@ -1,0 +1,18 @@
+use thiserror::Error;
+
+/// Why keys make no curve: the first of these that is so.
+#[derive(Clone, Copy, Debug, PartialEq, Eq, Hash, Error)]
+pub enum CurveFault {
+    /// There are fewer than 2.
+    #[error("a curve has at least 2 keys")]
+    FewKeys,
+    /// There are more than 16.
+    #[error("a curve has at most 16 keys")]
+    ManyKeys,
+    /// A key's time is not greater than the one before.
+    #[error("the times of a curve's keys do not rise")]
+    TimesNotRising,
+    /// The first key's time is not 0.
+    #[error("the first key of a curve is not at time 0")]
+    FirstNotZero,
+}

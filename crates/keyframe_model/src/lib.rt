@@ -1,0 +1,7 @@
+//! Keyframe models: one curve of one property of one element, with its timing and its policy.
+//!
+//! A model never changes once it is made. It has a value at each local time at which its timing gives a time of
+//! the curve, and it is done once its iterations are over.
+#![tactic(auto)]
+
+pub mod worked;

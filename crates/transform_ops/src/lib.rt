@@ -1,0 +1,14 @@
+//! The transform of an element: lists of at most eight operations, and how one turns into another.
+//!
+//! Operations are kept as they were given, and no matrix is ever made of them. Two lists blend as far as their
+//! operations match; a missing operation is its neutral one.
+#![tactic(auto)]
+
+pub mod ends;
+pub mod op;
+pub mod worked;
+
+pub use op::TransformOp;
+
+#[cfg(test)]
+mod tests;

@@ -1,0 +1,12 @@
+//! What lies between two values: blends of numbers and of opacities, in whole numbers.
+//!
+//! A progress, in units of which [`ONE`] is the whole way, says how far a value has come from one key to the
+//! next. A blend at 0 is the value that it comes from, at [`ONE`] the value that it goes to, and beyond these it
+//! goes on as far as the range of the value allows.
+#![tactic(auto)]
+
+pub mod ends;
+pub mod worked;
+
+/// The whole way from one value to the next, in the unit of a progress: 2^20.
+pub const ONE: u32 = 1 << 20;
