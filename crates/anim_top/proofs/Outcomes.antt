@@ -1,31 +1,20 @@
 -- What an answer that was written whole means for the bytes that were read.
-use Rattle.std.proofs.Common.{◌≡◌, ℕ, ◌<◌, ◌≤◌, Bool, true, false, cond, ltb, List, length, length-append, Option, Some, None, Result, Ok, Err, refl, ap, sym, subst, ◌∙◌, arith, inl, inr}
+use Rattle.std.proofs.Common.{◌≡◌, ℕ, ◌<◌, List, length, length-append, Option, Some, None, Result, Ok, Err, refl, ap, sym, subst, ◌∙◌, arith, inl, inr}
 use Rattle.std.specs.Prelude.{IfSome}
-use Rattle.std.proofs.lemmas.Bool.{lt-ltb, ltb-false, cases_lt}
+use Rattle.std.proofs.lemmas.Bool.{lt-ltb, cases_lt}
 use Rattle.edge_io.specs.Edges.{Took}
 use Rattle.frame_script.specs.declared.refusal.Cause.{Cause}
 use Rattle.frame_script.specs.declared.refusal.Cause.TheVariants.{TooLong}
-use Rattle.frame_script.specs.Lines.{lines}
 use Rattle.frame_script.specs.Refusals.{Refusal}
-use Rattle.frame_script.specs.Fades.{Fade, reading, fade_at}
+use Rattle.frame_script.specs.Fades.{Fade, reading}
+use Rattle.frame_script.proofs.Whole.{was_written, is_read}
 use Rattle.anim_top.specs.declared.status.Status.{Status}
 use Rattle.anim_top.specs.declared.status.Status.TheVariants.{Done, Refused}
-use Rattle.anim_top.specs.Answers.{Spells, status_for, text_for}
+use Rattle.anim_top.specs.Answers.{status_for, text_for}
 use Rattle.anim_top.specs.Outside.{Reads, IsDone, IsRefused, Answers, most_bytes}
 
 too_long : Result Fade Refusal
 too_long = Err (record { line = 0; cause = TooLong })
-
-guarded : (long : Bool) (read : Result Fade Refusal) (fade : Fade) → cond long too_long read ≡ Ok fade → long ≡ false
-unfolding too_long
-guarded true read fade e = absurd cc
-guarded false read fade e = refl
-
--- only so many bytes spell a script
-pub spelled_short : (bytes : List ℕ) (fade : Fade) → Spells bytes fade → length bytes ≤ most_bytes
-unfolding reading too_long
-spelled_short bytes fade e =
-    ltb-false most_bytes (length bytes) (guarded (ltb most_bytes (length bytes)) (fade_at (record { number = 1; lines = lines bytes })) fade e)
 
 -- more are refused whatever they say
 reading_long : (bytes : List ℕ) → most_bytes < length bytes → reading bytes ≡ too_long
@@ -56,8 +45,8 @@ module _ (left after taken took : Option (List ℕ)) (bytes : List ℕ) (status 
         bytes = bytes;
         script = fade;
         read = read.given;
-        whole = read.whole (spelled_short bytes fade spelled);
-        spelled = spelled;
+        whole = read.whole (was_written bytes fade spelled).short;
+        spelled = was_written bytes fade spelled;
         written = subst (λ (t : List ℕ). Took taken took t) text-is written;
       }
   done_for (Err refusal) refused status-is text-is done = absurd cc
@@ -77,6 +66,12 @@ module _ (left after taken took : Option (List ℕ)) (bytes : List ℕ) (status 
   is_refused number cause = refused_for (reading bytes) number cause refl
 
 -- the answer to the bytes read is the answer to all
+answers_all : (all : List ℕ) (status : Status) → status ≡ status_for (reading all) → Answers status all
+answers_all all status status-is = record {
+  spelled = λ script spelled. inl (status-is ∙ ap status_for (is_read all script spelled));
+  refused = λ number cause refused. inl (status-is ∙ ap status_for refused);
+}
+
 pub is_answer : (left after : Option (List ℕ)) (bytes : List ℕ) (status : Status) → Reads left after bytes → status ≡ status_for (reading bytes) → IfSome left (λ all. Answers status all)
 is_answer None after bytes status read status-is = tt
-is_answer (Some all) after bytes status read status-is = inl (status-is ∙ ap status_for (sym (reading_told all after bytes read)))
+is_answer (Some all) after bytes status read status-is = answers_all all status (status-is ∙ ap status_for (sym (reading_told all after bytes read)))

@@ -17,10 +17,6 @@ is_form [] = false
 is_form (word ∷ []) = bytes_eq word (codes "replay")
 is_form (word ∷ other ∷ more) = false
 
--- These bytes spell this script.
-abbrev pub Spells : List ℕ → Fade → Type 0
-Spells bytes fade = reading bytes ≡ Ok fade
-
 -- These bytes are refused at this line, for this cause.
 abbrev pub IsRefusedAt : List ℕ → ℕ → Cause → Type 0
 IsRefusedAt bytes number cause = reading bytes ≡ Err (record { line = number; cause = cause })

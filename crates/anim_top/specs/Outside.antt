@@ -3,11 +3,12 @@ use Rattle.std.specs.Prelude.{◌≡◌, ℕ, ◌+◌, ◌^◌, ◌≤◌, List,
 use Rattle.edge_io.specs.Edges.{Gave, Took}
 use Rattle.frame_script.specs.declared.refusal.Cause.{Cause}
 use Rattle.frame_script.specs.Fades.{Fade, reading}
+use Rattle.frame_script.specs.FadeTexts.{Spells}
 use Rattle.word_machine.specs.Replays.{report_of}
 use Rattle.word_machine.specs.Texts.{report_text}
 use Rattle.anim_top.specs.declared.status.Status.{Status}
-use Rattle.anim_top.specs.declared.status.Status.TheVariants.{NoMemory}
-use Rattle.anim_top.specs.Answers.{Spells, IsRefusedAt, refusal_text, status_for, text_for}
+use Rattle.anim_top.specs.declared.status.Status.TheVariants.{Done, Refused, NoMemory}
+use Rattle.anim_top.specs.Answers.{IsRefusedAt, refusal_text, text_for}
 
 abbrev pub most_bytes : ℕ
 most_bytes = 2 ^ 20
@@ -43,6 +44,11 @@ pub record IsCutShort (left after taken took : Option (List ℕ)) : Type 0 where
   pub read : Reads left after bytes
   pub written : Took taken took (take count (text_for (reading bytes)))
 
--- The answer to these bytes, unless memory ran out.
-abbrev pub Answers : Status → List ℕ → Type 0
-Answers status bytes = (status ≡ status_for (reading bytes)) ⊎ (status ≡ NoMemory)
+-- or memory ran out
+abbrev pub OrNoMemory : Status → Status → Type 0
+OrNoMemory status wanted = (status ≡ wanted) ⊎ (status ≡ NoMemory)
+
+-- The answer to these bytes, unless memory ran out: Done where they spell a script, and else their refusal.
+pub record Answers (status : Status) (bytes : List ℕ) : Type 0 where
+  pub spelled : (script : Fade) → Spells bytes script → OrNoMemory status Done
+  pub refused : (number : ℕ) (cause : Cause) → IsRefusedAt bytes number cause → OrNoMemory status (Refused number cause)

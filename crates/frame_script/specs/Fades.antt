@@ -76,6 +76,10 @@ abbrev pub tick_of : ℕ → List (List ℕ) → Option ℕ
 tick_of last (name ∷ time ∷ []) = if bytes_eq name (codes "tick") then natural_within last latest time else None
 tick_of last other = None
 
+-- the model: an opacity of element 1 on timeline 1, in group 1, from the first tick on, once at its own rate
+abbrev pub model_line : List ℕ
+model_line = codes "model 1 1 1 1 opacity - 0 1000 0 normal none 1000 auto linear 2"
+
 -- the word of a script with so many ticks: main's four steps, then the compositor's pull, its activate and its ticks
 abbrev pub word_line : ℕ → List ℕ
 word_line ticks = codes "word MMMMCC" ++ replicate ticks 67
@@ -112,7 +116,7 @@ element_at left = do
 
 unfoldable pub keys_at : Left → Result ((ℕ × (ℕ × ℕ)) × Left) Refusal
 keys_at left = do
-  model ← after_line (codes "model 1 1 1 1 opacity - 0 1000 0 normal none 1000 auto linear 2") left
+  model ← after_line model_line left
   first ← fields_at model
   from ← said model.number (from_of first.0)
   last ← fields_at first.1

@@ -3,3 +3,4 @@ pub mod Fields
 pub mod Numbers
 pub mod Refusals
 pub mod Fades
+pub mod FadeTexts

@@ -4,14 +4,15 @@
 //! function of the bytes, which `specs/Fades.antt` reads line by line.
 #![tactic(auto)]
 
-pub mod fade;
-pub mod fade_lines;
-pub mod fields;
-pub mod lines;
-pub mod numbers;
-pub mod place;
-pub mod read_fade;
-pub mod refusal;
+mod fade;
+mod fade_lines;
+mod fields;
+pub mod laws;
+mod lines;
+mod numbers;
+mod place;
+mod read_fade;
+mod refusal;
 
 pub use fade::FadeScript;
 pub use fields::fields_of;

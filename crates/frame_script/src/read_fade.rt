@@ -2,6 +2,7 @@
 
 ghost use Rattle.std.specs.Prelude.{◌≡◌, ◌<◌, ◌≤◌, length, option_map, IfOk, IfSome, Ok, string_bytes};
 ghost use Rattle.frame_script.specs.Refusals.{Gives, left_at, after_line};
+ghost use Rattle.frame_script.specs.FadeTexts.{Spells};
 ghost use Rattle.frame_script.specs.Fades.{Fade, reading, fade_at, element_at, keys_at, shown_at, tick_at, ticks_from, most_ticks, most_opaque, longest, latest, NeverFall, end_at, word_line};
 
 use crate::fade::FadeScript;
@@ -115,9 +116,20 @@ fn word_line(alloc: Global, ticks: usize) -> Result<String, AllocError>
 
 /// Reads a script. A refusal names the first line that is refused, counted from 1, or 0 where the script is too
 /// long.
-#[tactic(auto, unfolding(crate::specs::Fades::reading))]
 pub fn read_script(alloc: Global, bytes: &[u8]) -> Result<FadeScript, ScriptFault>
-    ensures { Gives (λ fade. fade) result (reading bytes.now) }
+    // What is read is spelled so.
+    ensures found { IfOk result (Spells bytes.now) }
+    // What is spelled so is read, unless memory runs out.
+    ensures only { (script : Fade) → Spells bytes.now script → Gives (λ read. read) result (Ok script) }
+    // What is refused is refused at its first bad line.
+    ensures exact { Gives (λ read. read) result (reading bytes.now) }
+{
+    read_all(alloc, bytes)
+}
+
+#[tactic(auto, unfolding(crate::specs::Fades::reading))]
+fn read_all(alloc: Global, bytes: &[u8]) -> Result<FadeScript, ScriptFault>
+    ensures { Gives (λ read. read) result (reading bytes.now) }
 {
     if bytes.len() > MOST_BYTES {
         return Err(ScriptFault::Refused {
