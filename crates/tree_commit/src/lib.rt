@@ -1,13 +1,16 @@
-// A library with one function.
+//! Trees, commits and scripts: what every layer above means by them.
+//!
+//! A commit is main's tree at one moment. The compositor makes marks of what starts, finishes and is aborted,
+//! and draws frames; both are read off whole commits and one list of marks. What a run reports is defined here,
+//! step by step, for any word of the two lanes.
 #![tactic(auto)]
 
-ghost use Rattle.std.specs.Prelude.{◌≡◌};
-ghost use Rattle.tree_commit.specs.Echo.{echo_of};
+pub mod mark;
+pub mod refusal;
+pub mod shown;
+pub mod step;
 
-// The `ensures` clause is the contract: what `echo` returns is `echo_of` of its argument, a definition
-// in `specs/Echo.antt`, which a caller's clause can cite too.
-pub fn echo(x: usize) -> usize
-    ensures { result ≡ echo_of x }
-{
-    x
-}
+pub use mark::Mark;
+pub use refusal::EditRefusal;
+pub use shown::Shown;
+pub use step::CompositorStep;

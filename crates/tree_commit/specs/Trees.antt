@@ -1,0 +1,81 @@
+-- Trees and commits as lists, and what is read off them.
+use Rattle.std.specs.Prelude.{ℕ, ◌==◌, Bool, if◌then◌else◌, ℤ, ◌-ℤ◌, List, [], ◌∷◌, ◌++◌, map, filter, fold, find, Option, option_map, unwrap_or}
+use Rattle.std.specs.List.{list_any}
+use Rattle.anim_timeline.specs.Timelines.{timeline_time}
+use Rattle.transform_ops.specs.declared.op.TransformOp.{TransformOp}
+use Rattle.keyframe_model.specs.Models.{Spec}
+
+-- ---- trees and commits
+
+-- what an element shows where no model animates it
+pub record Look : Type 0 where
+  pub opacity : ℕ
+  pub transform : List TransformOp
+
+pub record Element : Type 0 where
+  pub id : ℕ
+  pub look : Look
+
+-- a timeline, by the tick at which it shows 0
+pub record Clock : Type 0 where
+  pub id : ℕ
+  pub origin : ℕ
+
+-- a tree: its elements, its models and its timelines, each in order of insertion
+pub record TreeLists : Type 0 where
+  pub elements : List Element
+  pub models : List Spec
+  pub timelines : List Clock
+
+abbrev pub empty_tree : TreeLists
+empty_tree = record { elements = []; models = []; timelines = [] }
+
+-- a commit: main's tree as it was at a commit step, and which commit step it was, from 1 on
+pub record Committed : Type 0 where
+  pub number : ℕ
+  pub tree : TreeLists
+
+-- commit 0, which is active before any other is
+abbrev pub empty_commit : Committed
+empty_commit = record { number = 0; tree = empty_tree }
+
+-- ---- what is in a tree
+
+abbrev pub has_element : TreeLists → ℕ → Bool
+has_element tree id = list_any (λ element. id == element.id) tree.elements
+
+abbrev pub has_model : TreeLists → ℕ → Bool
+has_model tree id = list_any (λ model. id == model.id) tree.models
+
+abbrev pub model_with : TreeLists → ℕ → Option Spec
+model_with tree id = find (λ model. id == model.id) tree.models
+
+-- ---- timelines
+
+-- the tick at which a timeline of the tree shows 0; a commit has the timelines of all its models
+abbrev pub origin_of : TreeLists → ℕ → ℕ
+origin_of tree timeline = unwrap_or (option_map (λ clock. clock.origin) (find (λ clock. timeline == clock.id) tree.timelines)) 0
+
+-- what a model's timeline shows at a tick
+abbrev pub time_of : TreeLists → ℕ → Spec → ℤ
+time_of tree tick model = timeline_time (origin_of tree model.timeline) tick
+
+-- the model's local time at a tick, for the start that was recorded when it started
+abbrev pub local_time : TreeLists → ℕ → Spec → ℤ → ℤ
+local_time tree tick model start = time_of tree tick model -ℤ start
+
+-- ---- groups
+
+-- the models of a group, in the tree's order
+abbrev pub members : TreeLists → ℕ → List Spec
+members tree group = filter (λ model. group == model.group) tree.models
+
+abbrev pub has_group : TreeLists → ℕ → Bool
+has_group tree group = list_any (λ model. group == model.group) tree.models
+
+abbrev pub note_group : List ℕ → Spec → List ℕ
+note_group groups model = if list_any (λ group. model.group == group) groups then groups else groups ++ model.group ∷ []
+
+-- the groups of a tree's models, in the order of their first models
+abbrev pub groups : TreeLists → List ℕ
+groups tree = fold note_group [] tree.models

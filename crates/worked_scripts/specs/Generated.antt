@@ -1,0 +1,44 @@
+-- The smallest script of the generator: an element fades and moves in steps, and the ticks begin before any commit.
+use Rattle.std.specs.Prelude.{pos, [], ◌∷◌, codes}
+use Rattle.anim_names.specs.declared.event.AnimEvent.TheVariants.{Started}
+use Rattle.micro_time.specs.declared.direction.Direction.TheVariants.{Reverse}
+use Rattle.micro_time.specs.declared.fill.Fill.TheVariants.{Both}
+use Rattle.easing_fixed.specs.declared.easing.Easing.TheVariants.{Linear, Steps}
+use Rattle.easing_fixed.specs.declared.position.StepPosition.TheVariants.{JumpEnd}
+use Rattle.keyframe_model.specs.Models.{OpacityCurve, TransformCurve}
+use Rattle.tree_commit.specs.declared.step.CompositorStep.TheVariants.{Pull, Activate, Tick}
+use Rattle.tree_commit.specs.Edits.{AddElement}
+use Rattle.tree_commit.specs.Scripts.{ScriptLists, Edit, Commit, Drain}
+use Rattle.tree_commit.specs.Runs.{ReportLists}
+use Rattle.worked_scripts.specs.declared.TheConstants.{FADED_BACK}
+use Rattle.worked_scripts.specs.Pieces.{letters, timeline_1, model, runs, key, linear, moved, frame, row}
+
+abbrev pub script : ScriptLists
+script = record {
+  main =
+      timeline_1
+      ∷ Edit (AddElement 1 (record { opacity = 1000000; transform = moved 0 }))
+      ∷ model 1 1 (record (runs 101000 2000 Both) { direction = Reverse }) (OpacityCurve (linear 101000 1000000 0))
+      ∷ model 2 1 (runs 200000 1000 Both)
+      (TransformCurve (record { keys = record (key 0 (moved 0)) { easing = Steps (record { count = 4; position = JumpEnd }) } ∷ key 200000 (moved 1000) ∷ []; easing = Linear }))
+      ∷ Commit
+      ∷ Drain
+      ∷ Commit
+      ∷ Drain
+      ∷ [];
+  compositor = Tick 0 ∷ Pull ∷ Activate ∷ Tick 16667 ∷ Tick 33334 ∷ Tick 50001 ∷ [];
+  word = letters (codes "MMMCMMMCMMCCCC");
+}
+
+abbrev pub report : ReportLists
+report = record {
+  word = script.word;
+  frames =
+      frame 0 0 []
+      ∷ frame 16667 1 (row 1 0 (moved 0) ∷ [])
+      ∷ frame 33334 1 (row 1 FADED_BACK (moved 0) ∷ [])
+      ∷ frame 50001 1 (row 1 330039 (moved 0) ∷ [])
+      ∷ [];
+  events = Started 1 1 16667 (pos 16667) ∷ Started 2 1 16667 (pos 16667) ∷ [];
+  heard = 0 ∷ 0 ∷ 2 ∷ [];
+}

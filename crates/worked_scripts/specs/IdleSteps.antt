@@ -1,0 +1,22 @@
+-- A pull while a commit is pending takes nothing, a second activation does nothing, a pull of what was pulled takes
+-- nothing, and drains without news hear nothing.
+use Rattle.std.specs.Prelude.{[], ◌∷◌, codes}
+use Rattle.tree_commit.specs.declared.step.CompositorStep.TheVariants.{Pull, Activate, Tick}
+use Rattle.tree_commit.specs.Scripts.{ScriptLists, Commit, Drain}
+use Rattle.tree_commit.specs.Runs.{ReportLists}
+use Rattle.worked_scripts.specs.Pieces.{letters, element, frame, row}
+
+abbrev pub script : ScriptLists
+script = record {
+  main = element 1 700000 ∷ Commit ∷ Commit ∷ Drain ∷ Drain ∷ [];
+  compositor = Pull ∷ Pull ∷ Activate ∷ Activate ∷ Tick 5 ∷ Pull ∷ Tick 6 ∷ [];
+  word = letters (codes "MMCMCCCCCCMM");
+}
+
+abbrev pub report : ReportLists
+report = record {
+  word = script.word;
+  frames = frame 5 1 (row 1 700000 [] ∷ []) ∷ frame 6 1 (row 1 700000 [] ∷ []) ∷ [];
+  events = [];
+  heard = 0 ∷ 0 ∷ 0 ∷ [];
+}

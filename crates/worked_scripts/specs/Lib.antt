@@ -1,0 +1,11 @@
+pub mod DroppedModel
+pub mod FadeIn
+pub mod Generated
+pub mod IdleSteps
+pub mod LateElement
+pub mod LostElement
+pub mod NoIterations
+pub mod Pieces
+pub mod ReplacedCommit
+pub mod TwoOrders
+pub mod WaitingGroup

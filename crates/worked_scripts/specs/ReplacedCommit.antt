@@ -1,0 +1,32 @@
+-- Two commits before one pull: the first is never seen, and its model has no event.
+use Rattle.std.specs.Prelude.{[], ◌∷◌, codes}
+use Rattle.micro_time.specs.declared.fill.Fill.TheVariants.{Neither}
+use Rattle.keyframe_model.specs.Models.{OpacityCurve}
+use Rattle.tree_commit.specs.declared.step.CompositorStep.TheVariants.{Pull, Activate, Tick}
+use Rattle.tree_commit.specs.Edits.{RemoveModel}
+use Rattle.tree_commit.specs.Scripts.{ScriptLists, Edit, Commit}
+use Rattle.tree_commit.specs.Runs.{ReportLists}
+use Rattle.worked_scripts.specs.Pieces.{letters, timeline_1, element, model, runs, linear, frame, row}
+
+abbrev pub script : ScriptLists
+script = record {
+  main =
+      timeline_1
+      ∷ element 1 1000000
+      ∷ model 1 1 (runs 1000000 1000 Neither) (OpacityCurve (linear 1000000 0 1000000))
+      ∷ Commit
+      ∷ Edit (RemoveModel 1)
+      ∷ element 2 300000
+      ∷ Commit
+      ∷ [];
+  compositor = Pull ∷ Activate ∷ Tick 5 ∷ [];
+  word = letters (codes "MMMMMMMCCC");
+}
+
+abbrev pub report : ReportLists
+report = record {
+  word = script.word;
+  frames = frame 5 2 (row 1 1000000 [] ∷ row 2 300000 [] ∷ []) ∷ [];
+  events = [];
+  heard = 0 ∷ [];
+}

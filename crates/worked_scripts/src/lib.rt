@@ -1,0 +1,22 @@
+//! Whole scripts with the reports that they have, computed by the check from the definitions alone.
+//!
+//! Each function's clauses say that its script is well formed, and that its report for its word is the one that was
+//! worked out by hand. Nothing runs here.
+#![tactic(auto)]
+
+pub mod reports;
+
+/// The opacity of an element a third of the way from nothing to opaque, rounded down.
+pub const A_THIRD_IN: u32 = 333_332;
+
+/// The time from which the models of a group count whose element came late.
+pub const START_OF_THE_LATE: i64 = 2_000;
+
+/// The number of the commit that dropped a running model.
+pub const ABORTING_COMMIT: u32 = 2;
+
+/// The tick in which a group finishes and its property is taken by the next.
+pub const FREED_AT: u64 = 3_000;
+
+/// The opacity of an element that comes back from nothing, at its second frame.
+pub const FADED_BACK: u32 = 165_019;

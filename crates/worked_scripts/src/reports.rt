@@ -1,0 +1,77 @@
+//! One script a function.
+#![tactic(auto, unfolding(tree_commit::specs::Scripts::all_may_come, tree_commit::specs::Edits::edit_refusal, tree_commit::specs::Edits::model_refusal, tree_commit::specs::Edits::noted, tree_commit::specs::Edits::edited, tree_commit::specs::Marks::is_ready, tree_commit::specs::Marks::finish_marks, tree_commit::specs::Marks::start_marks, tree_commit::specs::Marks::marks_of_tick, tree_commit::specs::Marks::marks_of_activation, tree_commit::specs::Frames::animated_value, tree_commit::specs::Frames::frame_at, tree_commit::specs::Runs::after_hearing, tree_commit::specs::Runs::drained, tree_commit::specs::Runs::main_step, tree_commit::specs::Runs::compositor_step, tree_commit::specs::Runs::after, tree_commit::specs::Runs::closing_report, keyframe_model::specs::Models::model_value, curve_keys::specs::Curves::curve_value, easing_fixed::specs::Easings::eased, easing_fixed::specs::Steps::step_value, micro_time::specs::Timings::curve_time, micro_time::specs::Timings::phase, micro_time::specs::Timings::is_done))]
+
+ghost use Rattle.std.specs.Prelude.{◌≡◌};
+ghost use Rattle.tree_commit.specs.Runs.{report_of};
+ghost use Rattle.tree_commit.specs.Scripts.{IsWellFormed};
+ghost use Rattle.worked_scripts.specs.DroppedModel as dropped_model;
+ghost use Rattle.worked_scripts.specs.FadeIn as fade_in;
+ghost use Rattle.worked_scripts.specs.Generated as generated;
+ghost use Rattle.worked_scripts.specs.IdleSteps as idle_steps;
+ghost use Rattle.worked_scripts.specs.LateElement as late_element;
+ghost use Rattle.worked_scripts.specs.LostElement as lost_element;
+ghost use Rattle.worked_scripts.specs.NoIterations as no_iterations;
+ghost use Rattle.worked_scripts.specs.ReplacedCommit as replaced_commit;
+ghost use Rattle.worked_scripts.specs.TwoOrders as two_orders;
+ghost use Rattle.worked_scripts.specs.WaitingGroup as waiting_group;
+
+/// An element fades in.
+pub fn fade_in()
+    ensures well_formed { IsWellFormed fade_in.script }
+    ensures report { report_of fade_in.script fade_in.script.word ≡ fade_in.report }
+{}
+
+/// A model without iterations starts and finishes in two ticks of one time.
+pub fn no_iterations()
+    ensures well_formed { IsWellFormed no_iterations.script }
+    ensures report { report_of no_iterations.script no_iterations.script.word ≡ no_iterations.report }
+{}
+
+/// A group waits for its element, and its models start together.
+pub fn late_element()
+    ensures well_formed { IsWellFormed late_element.script }
+    ensures report { report_of late_element.script late_element.script.word ≡ late_element.report }
+{}
+
+/// Nothing starts while the pending commit has a group's model and not its element.
+pub fn lost_element()
+    ensures well_formed { IsWellFormed lost_element.script }
+    ensures report { report_of lost_element.script lost_element.script.word ≡ lost_element.report }
+{}
+
+/// A model that the pending commit has dropped starts, and is aborted.
+pub fn dropped_model()
+    ensures well_formed { IsWellFormed dropped_model.script }
+    ensures report { report_of dropped_model.script dropped_model.script.word ≡ dropped_model.report }
+{}
+
+/// A model waits for a whole group, and starts in the tick in which the group finishes.
+pub fn waiting_group()
+    ensures well_formed { IsWellFormed waiting_group.script }
+    ensures report { report_of waiting_group.script waiting_group.script.word ≡ waiting_group.report }
+{}
+
+/// A commit that was replaced before a pull is never seen.
+pub fn replaced_commit()
+    ensures well_formed { IsWellFormed replaced_commit.script }
+    ensures report { report_of replaced_commit.script replaced_commit.script.word ≡ replaced_commit.report }
+{}
+
+/// Pulls, activations and drains with nothing to do.
+pub fn idle_steps()
+    ensures well_formed { IsWellFormed idle_steps.script }
+    ensures report { report_of idle_steps.script idle_steps.script.word ≡ idle_steps.report }
+{}
+
+/// One script in two orders of its lanes.
+pub fn two_orders()
+    ensures well_formed { IsWellFormed two_orders.script }
+    ensures report { report_of two_orders.script two_orders.script.word ≡ two_orders.report }
+    ensures other { report_of two_orders.script two_orders.other_word ≡ two_orders.other_report }
+{}
+
+/// The smallest script of the generator.
+pub fn generated()
+    ensures well_formed { IsWellFormed generated.script }
+    ensures report { report_of generated.script generated.script.word ≡ generated.report }
+{}
