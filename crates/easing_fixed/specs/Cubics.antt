@@ -1,7 +1,7 @@
 -- A cubic Bézier curve from (0, 0) to (1, 1): its parts and their ranges, its place at a progress, and its value.
 --
--- Control numbers are in millionths. A parameter s from 0 to ONE goes along the curve. How far across and how
--- high the curve is at s is in millionths of ONE ^ 3.
+-- Control numbers are in millionths. A parameter goes along the curve in steps of one n-th, from 0 to n; the
+-- product's n is ONE. How far across and how high the curve is there is in millionths of n * n * n.
 use Rattle.std.specs.Prelude.{ℕ, zero, suc, ◌+◌, ◌-◌, ◌*◌, ◌^◌, ◌≤◌, ℤ, pos, ◌+ℤ◌, ◌*ℤ◌, int_le, unsigned_abs, Bool, not, ◌&&◌, nat_le, if◌then◌else◌, Option, Some, None}
 use Rattle.std.specs.Int.{int_div_euclid}
 use Rattle.easing_fixed.specs.declared.TheConstants.{ONE}
@@ -16,8 +16,11 @@ pub record CubicParts : Type 0 where
   pub x2 : ℤ
   pub y2 : ℤ
 
+abbrev pub cubic_parts : ℤ → ℤ → ℤ → ℤ → CubicParts
+cubic_parts x1 y1 x2 y2 = record { x1 = x1; y1 = y1; x2 = x2; y2 = y2 }
+
 abbrev pub is_x : ℤ → Bool
-is_x x = int_le (pos 0) x && nat_le (unsigned_abs x) (10 ^ 6)
+is_x x = int_le (pos 0) x && int_le x (pos (10 ^ 6))
 
 abbrev pub is_y : ℤ → Bool
 is_y y = nat_le (unsigned_abs y) (10 ^ 7)
@@ -31,29 +34,39 @@ cubic_refusal c =
 
 -- ---- the curve
 
--- how far across the curve is at the parameter s
-abbrev pub across : ℕ → ℕ → ℕ → ℕ
-across x1 x2 s = 3 * (ONE - s) ^ 2 * s * x1 + 3 * (ONE - s) * s ^ 2 * x2 + s ^ 3 * 10 ^ 6
+-- how much the two control points and the end of the curve weigh at the parameter s of n
+abbrev pub first_weight : ℕ → ℕ → ℕ
+first_weight n s = 3 * (n - s) * (n - s) * s
 
--- how high the curve is at the parameter s
-abbrev pub height : ℤ → ℤ → ℕ → ℤ
-height y1 y2 s = pos (3 * (ONE - s) ^ 2 * s) *ℤ y1 +ℤ pos (3 * (ONE - s) * s ^ 2) *ℤ y2 +ℤ pos (s ^ 3 * 10 ^ 6)
+abbrev pub second_weight : ℕ → ℕ → ℕ
+second_weight n s = 3 * (n - s) * s * s
+
+abbrev pub end_weight : ℕ → ℕ
+end_weight s = s * s * s
+
+-- how far across the curve is
+abbrev pub across : ℕ → ℕ → ℕ → ℕ → ℕ
+across n x1 x2 s = first_weight n s * x1 + second_weight n s * x2 + end_weight s * 10 ^ 6
+
+-- how high the curve is
+abbrev pub height : ℕ → ℤ → ℤ → ℕ → ℤ
+height n y1 y2 s = pos (first_weight n s) *ℤ y1 +ℤ pos (second_weight n s) *ℤ y2 +ℤ pos (end_weight s * 10 ^ 6)
 
 -- ---- the place at a progress
 
--- the progress p, in the unit of `across`
+-- the progress p, in the unit of `across ONE`
 abbrev pub bound : ℕ → ℕ
-bound p = p * ONE ^ 2 * 10 ^ 6
+bound p = p * (ONE * ONE * 10 ^ 6)
 
 -- s is the place: the greatest parameter at which the curve is no farther across than p
 pub record IsPlace (x1 x2 p s : ℕ) : Type 0 where
   pub within : s ≤ ONE
-  pub not_past : across x1 x2 s ≤ bound p
-  pub greatest : (r : ℕ) → r ≤ ONE → across x1 x2 r ≤ bound p → r ≤ s
+  pub not_past : across ONE x1 x2 s ≤ bound p
+  pub greatest : (r : ℕ) → r ≤ ONE → across ONE x1 x2 r ≤ bound p → r ≤ s
 
 -- the test of a place: s is a parameter, and the curve is no farther across there than p
 abbrev pub is_not_past : ℕ → ℕ → ℕ → ℕ → Bool
-is_not_past x1 x2 p s = nat_le s ONE && nat_le (across x1 x2 s) (bound p)
+is_not_past x1 x2 p s = nat_le s ONE && nat_le (across ONE x1 x2 s) (bound p)
 
 -- Bit by bit from the highest down, a bit is set where the number still passes the test.
 abbrev pub greatest_from : (ℕ → Bool) → ℕ → ℕ → ℕ
@@ -67,4 +80,4 @@ place x1 x2 p = greatest_from (is_not_past x1 x2 p) 21 0
 -- ---- the value
 
 unfoldable pub cubic_value : CubicParts → ℕ → ℤ
-cubic_value c p = int_div_euclid (height c.y1 c.y2 (place (unsigned_abs c.x1) (unsigned_abs c.x2) p)) (pos (ONE ^ 2 * 10 ^ 6))
+cubic_value c p = int_div_euclid (height ONE c.y1 c.y2 (place (unsigned_abs c.x1) (unsigned_abs c.x2) p)) (pos (ONE * ONE * 10 ^ 6))

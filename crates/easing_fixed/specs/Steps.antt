@@ -12,6 +12,9 @@ pub record StepParts : Type 0 where
   pub count : ℕ
   pub position : StepPosition
 
+abbrev pub step_parts : ℕ → StepPosition → StepParts
+step_parts count position = record { count = count; position = position }
+
 -- without a jump at either end there are two steps at least
 abbrev pub least_count : StepPosition → ℕ
 least_count JumpStart = 1

@@ -10,6 +10,7 @@ pub mod easing;
 pub mod fault;
 pub mod position;
 pub mod step;
+mod weight;
 pub mod worked;
 
 pub use cubic::CubicShape;

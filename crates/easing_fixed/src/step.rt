@@ -1,7 +1,10 @@
-ghost use Rattle.std.specs.Prelude.{◌≡◌};
+ghost use Rattle.std.specs.Prelude.{◌≡◌, ◌+◌, ◌*◌, ◌^◌, ◌<◌, ◌≤◌, IfOk, None};
+ghost use Rattle.std.specs.Result.{result_err};
+ghost use Rattle.easing_fixed.specs.Steps.{step_parts, step_refusal, jumps, step, step_value};
 
-use crate::StepPosition;
 use std::marker::Model;
+
+use crate::{EasingFault, ONE, StepPosition};
 
 /// A step function: how many steps, and where it jumps.
 #[derive(Clone, Copy, Debug, PartialEq, Eq, Hash)]
@@ -12,21 +15,35 @@ pub struct StepShape {
 
 impl Model for StepShape {
     ghost use Rattle.std.specs.Prelude.{◌≡◌, None};
-    ghost use Rattle.easing_fixed.specs.Steps.{StepParts, step_refusal};
+    ghost use Rattle.easing_fixed.specs.Steps.{StepParts, step_parts, step_refusal};
 
     ghost Value = { StepParts };
 
-    ghost view = { λ s. record { count = s.count; position = s.position } };
+    ghost view = { λ s. step_parts s.count s.position };
 
-    ghost invariant = { λ s. step_refusal (record { count = s.count; position = s.position }) ≡ None };
+    ghost invariant = { λ s. step_refusal (step_parts s.count s.position) ≡ None };
 
     ghost inverse = { λ s. record { count = s.count; position = s.position } };
 }
 
 impl StepShape {
+    /// Makes a step function of 1 to 1,000,000 steps, or of 2 at least where it jumps between them alone.
+    pub fn new(count: u32, position: StepPosition) -> Result<StepShape, EasingFault>
+        ensures refused { result_err result ≡ step_refusal (step_parts count position) }
+        ensures parts { IfOk result (λ shape. shape ≡ step_parts count position) }
+    {
+        if count < position.least_count() || count > 1_000_000 {
+            return Err(EasingFault::BadCount);
+        }
+        Ok(StepShape { count, position })
+    }
+
     /// How many steps there are.
     pub fn count(&self) -> u32
-        ensures { result ≡ self.now.count }
+        ensures value { result ≡ self.now.count }
+
+        // What holds of every shape: `new` would take its parts.
+        ensures taken { step_refusal self.now ≡ None }
     {
         self.count
     }
@@ -36,5 +53,38 @@ impl StepShape {
         ensures { result ≡ self.now.position }
     {
         self.position
+    }
+
+    /// The value at a progress p from 0 to [`ONE`], in the same unit.
+    #[tactic(auto, unfolding(crate::specs::Steps::step_value))]
+    pub fn value(&self, p: u32) -> u32
+        requires { p ≤ ONE }
+        ensures value { result ≡ step_value self.now p }
+        ensures within { result ≤ ONE }
+    {
+        (u64::from(self.step(p)) * u64::from(ONE) / u64::from(self.jumps())) as u32
+    }
+
+    // How many jumps lead from 0 to 1.
+    fn jumps(&self) -> u32
+        ensures value { result ≡ jumps self.now }
+        ensures some { 0 < result }
+        ensures size { result ≤ 10 ^ 6 + 1 }
+    {
+        match self.position {
+            StepPosition::JumpStart | StepPosition::JumpEnd => self.count,
+            StepPosition::JumpNone => self.count - 1,
+            StepPosition::JumpBoth => self.count + 1,
+        }
+    }
+
+    // How many of them are made at p.
+    fn step(&self, p: u32) -> u32
+        requires { p ≤ ONE }
+        ensures value { result ≡ step self.now p }
+        ensures within { result ≤ jumps self.now }
+    {
+        let ended = (u64::from(p) * u64::from(self.count) / u64::from(ONE)) as u32;
+        (ended + self.position.first_jumps()).min(self.jumps())
     }
 }

@@ -1,1 +1,2 @@
 pub mod Timings
+pub mod Worked

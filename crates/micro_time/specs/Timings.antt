@@ -27,6 +27,17 @@ pub record TimingParts : Type 0 where
   pub fill : Fill
   pub rate : ℤ
 
+abbrev pub timing_parts : ℕ → ℤ → Iterations → ℕ → Direction → Fill → ℤ → TimingParts
+timing_parts duration offset iterations iteration_start direction fill rate = record {
+  duration = duration;
+  offset = offset;
+  iterations = iterations;
+  iteration_start = iteration_start;
+  direction = direction;
+  fill = fill;
+  rate = rate;
+}
+
 -- ---- their ranges
 
 abbrev pub is_duration : ℕ → Bool
@@ -101,11 +112,14 @@ progress_in Before t local = 0
 progress_in Active t local = covered t local
 progress_in After t local = total t
 
--- the place, counted from the beginning of iteration 0: from the iteration start on, and backwards from the
--- end of the iterations where the rate is negative
+-- what length of iterations the iteration start leaves out
+abbrev pub skipped : TimingParts → ℕ
+skipped t = t.iteration_start * t.duration
+
+-- the place, counted from the beginning of iteration 0; a negative rate goes from the end of the iterations back
 abbrev pub place_in : Phase → TimingParts → ℤ → ℕ
 place_in phase t local =
-    (if is_negative t.rate then total t - progress_in phase t local else progress_in phase t local) + t.iteration_start * t.duration
+    (if is_negative t.rate then total t - progress_in phase t local else progress_in phase t local) + skipped t
 
 -- the length of one iteration
 abbrev pub one_iteration : TimingParts → ℕ
@@ -114,7 +128,7 @@ one_iteration t = t.duration * 1000
 -- the place is the end of all iterations, there are some, and it is the end of one of them too
 abbrev pub is_last_end : TimingParts → ℕ → Bool
 is_last_end t place =
-    is_finite t.iterations && nat_lt 0 (total t) && place % one_iteration t == 0 && place == total t + t.iteration_start * t.duration
+    is_finite t.iterations && nat_lt 0 (total t) && place % one_iteration t == 0 && place == total t + skipped t
 
 -- which iteration the place is in; the last end belongs to the iteration that it ends
 abbrev pub iteration_at : TimingParts → ℕ → ℕ

@@ -1,4 +1,3 @@
-use std::fmt;
 use thiserror::Error;
 
 /// A number of a timing, in the order in which they are judged.
@@ -16,24 +15,11 @@ pub enum TimingField {
     Rate,
 }
 
-impl fmt::Display for TimingField {
-    fn fmt<W: fmt::Write>(&self, f: &mut fmt::Formatter<W>) -> fmt::Result {
-        let name = match self {
-            TimingField::Duration => "duration",
-            TimingField::Offset => "offset",
-            TimingField::Iterations => "iterations",
-            TimingField::IterationStart => "iteration start",
-            TimingField::Rate => "rate",
-        };
-        f.write_str(name)
-    }
-}
-
 /// Why numbers make no timing.
 #[derive(Clone, Copy, Debug, PartialEq, Eq, Hash, Error)]
 pub enum TimingFault {
     /// This field is the first that is outside of its range.
-    #[error("the {0} is out of range")]
+    #[error("out of range: {0:?}")]
     OutOfRange(TimingField),
     /// Infinite iterations have no end that a negative rate could count from.
     #[error("infinite iterations can't run at a negative rate")]

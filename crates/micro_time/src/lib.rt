@@ -12,6 +12,7 @@ pub mod fill;
 pub mod iterations;
 pub mod phase;
 pub mod timing;
+pub mod worked;
 
 pub use direction::Direction;
 pub use fault::{TimingFault, TimingField};
@@ -19,3 +20,6 @@ pub use fill::Fill;
 pub use iterations::Iterations;
 pub use phase::Phase;
 pub use timing::Timing;
+
+#[cfg(test)]
+mod tests;
