@@ -4,7 +4,14 @@
 //! operations match; a missing operation is its neutral one.
 #![tactic(auto)]
 
+pub mod fault;
+pub mod list;
 pub mod op;
 pub mod worked;
 
+pub use fault::ListFault;
+pub use list::TransformList;
 pub use op::TransformOp;
+
+#[cfg(test)]
+mod tests;
