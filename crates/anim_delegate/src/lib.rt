@@ -9,3 +9,6 @@ pub mod verdict;
 
 pub use policy::Policy;
 pub use verdict::Verdict;
+
+#[cfg(test)]
+mod tests;

@@ -47,8 +47,8 @@ last_time time [] = time
 last_time time (key ∷ keys) = last_time key.time keys
 
 -- how long the curve is: until its last key
-abbrev pub duration : {V : Type 0} → Keyframes V → ℕ
-duration curve = last_time 0 curve.keys
+abbrev pub duration_of : {V : Type 0} → Keyframes V → ℕ
+duration_of curve = last_time 0 curve.keys
 
 -- The time that the curve's own easing makes of a time: none other where it is linear. An easing that overshoots is
 -- held at the curve's ends.
@@ -59,15 +59,15 @@ bent_time easing duration time = clamp_to duration (floor_div (eased easing (tim
 -- ---- the value
 
 -- how far the time has come from one key to the next
-abbrev pub progress : {V : Type 0} → Key V → Key V → ℕ → ℕ
-progress from to time = (time - from.time) * ONE / (to.time - from.time)
+abbrev pub progress_between : {V : Type 0} → Key V → Key V → ℕ → ℕ
+progress_between from to time = (time - from.time) * ONE / (to.time - from.time)
 
 -- The value from this key on: up to the next key the two are blended, as this key's easing bends the progress. From
 -- the last key on there is its value.
 abbrev pub value_from : {V : Type 0} → (V → V → ℤ → V) → Key V → List (Key V) → ℕ → V
 value_from blend from [] time = from.value
 value_from blend from (to ∷ keys) time =
-    if nat_lt time to.time then blend from.value to.value (eased from.easing (progress from to time)) else
+    if nat_lt time to.time then blend from.value to.value (eased from.easing (progress_between from to time)) else
     value_from blend to keys time
 
 -- At time 0 it is the first key's value, whatever that key's easing is.
@@ -77,4 +77,4 @@ value_at blend (first ∷ keys) time = Some (if time == 0 then first.value else 
 
 -- The value of a curve at a time up to its duration. Only without keys there is none.
 unfoldable pub curve_value : {V : Type 0} → (V → V → ℤ → V) → Keyframes V → ℕ → Option V
-curve_value blend curve time = value_at blend curve.keys (bent_time curve.easing (duration curve) time)
+curve_value blend curve time = value_at blend curve.keys (bent_time curve.easing (duration_of curve) time)

@@ -1,2 +1,2 @@
 pub mod Curves
-pub mod Examples
+pub mod Worked

@@ -10,3 +10,6 @@ pub mod worked;
 
 pub use fault::CurveFault;
 pub use key::Key;
+
+#[cfg(test)]
+mod tests;

@@ -3,7 +3,7 @@
 ghost use Rattle.std.specs.Prelude.{◌≡◌, List, [], ◌∷◌, Some};
 ghost use Rattle.easing_fixed.specs.declared.easing.Easing.TheVariants.{Linear};
 ghost use Rattle.value_blend.specs.Blends.{blend_opacity};
-ghost use Rattle.curve_keys.specs.Examples.{up_and_half_down, stepped};
+ghost use Rattle.curve_keys.specs.Worked.{up_and_half_down, stepped};
 ghost use Rattle.curve_keys.specs.Curves.{curve_value};
 
 /// Where an opacity is half way down from opaque to half.

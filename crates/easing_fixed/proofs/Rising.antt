@@ -1,8 +1,8 @@
 -- How far across a curve is rises strictly with the parameter.
-use Rattle.std.proofs.Common.{◌≡◌, ℕ, zero, ◌+◌, ◌-◌, ◌*◌, ◌^◌, ◌<◌, ◌≤◌, ◌⊎◌, inl, inr, subst, arith}
+use Rattle.std.proofs.Common.{◌≡◌, ℕ, ◌+◌, ◌-◌, ◌*◌, ◌^◌, ◌<◌, ◌≤◌, inl, inr, subst, arith}
 use Rattle.std.proofs.lemmas.Bool.{cases_lt}
 use Rattle.std.proofs.Math.Nat.{mul-pos}
-use Rattle.easing_fixed.specs.Cubics.{across}
+use Rattle.easing_fixed.specs.Cubics.{first_weight, second_weight, end_weight, across}
 
 -- the curve by the two distances from its ends
 abbrev across_by : ℕ → ℕ → ℕ → ℕ → ℕ → ℕ
@@ -17,9 +17,9 @@ square_below a k d = omega arith
 
 square-of_difference : (a r d : ℕ) → 2 * (a * r * d) ≤ a * a * d + r * r * d
 square-of_difference a r d = elim (cases_lt r a) [
-    inl h ↦ let e : r + (a - r) ≡ a = omega arith in subst (λ x. 2 * (x * r * d) ≤ x * x * d + r * r * d) e (square_above r (a - r) d)
+  | inl h ↦ let e : r + (a - r) ≡ a = omega arith in subst (λ x. 2 * (x * r * d) ≤ x * x * d + r * r * d) e (square_above r (a - r) d)
   | inr h ↦ let e : a + (r - a) ≡ r = omega arith in subst (λ x. 2 * (a * x * d) ≤ a * a * d + x * x * d) e (square_below a (r - a) d)
-  ]
+]
 
 -- where the second control point is not behind the first
 rises_ahead : (a r d x e f : ℕ) → across_by (a + d) r x (x + e) (x + e + f) + d * d * d * (x + e + f) ≤ across_by a (r + d) x (x + e) (x + e + f)
@@ -31,7 +31,7 @@ rises_behind a r d x e f = omega (arith, square-of_difference a r (d * e))
 
 across_by-rises : (a r d x1 x2 m : ℕ) → x1 ≤ m → x2 ≤ m → across_by (a + d) r x1 x2 m + d * d * d * m ≤ across_by a (r + d) x1 x2 m
 across_by-rises a r d x1 x2 m p q = elim (cases_lt x2 x1) [
-    inl h ↦
+  | inl h ↦
       let e : x2 + (x1 - x2) ≡ x1 = omega arith in
       let f : x2 + (x1 - x2) + (m - x1) ≡ m = omega arith in
       subst (λ z. across_by (a + d) r x1 x2 z + d * d * d * z ≤ across_by a (r + d) x1 x2 z) f
@@ -43,7 +43,7 @@ across_by-rises a r d x1 x2 m p q = elim (cases_lt x2 x1) [
       subst (λ z. across_by (a + d) r x1 x2 z + d * d * d * z ≤ across_by a (r + d) x1 x2 z) f
       (subst (λ y. across_by (a + d) r x1 y (x1 + (x2 - x1) + (m - x2)) + d * d * d * (x1 + (x2 - x1) + (m - x2)) ≤ across_by a (r + d) x1 y (x1 + (x2 - x1) + (m - x2))) e
       (rises_ahead a r d x1 (x2 - x1) (m - x2)))
-  ]
+]
 
 -- the curve rises by the cube of the distance at least
 across-rises_by : (n x1 x2 r d : ℕ) → x1 ≤ 10 ^ 6 → x2 ≤ 10 ^ 6 → r + d ≤ n → across n x1 x2 r + d * d * d * 10 ^ 6 ≤ across n x1 x2 (r + d)
@@ -76,3 +76,13 @@ across-scaled k n x1 x2 s h =
     let products : k * (n - s) + k * s ≡ k * n = subst (λ y. k * (n - s) + k * s ≡ k * y) e (omega arith) in
     let u : k * (n - s) ≡ k * n - k * s = omega arith in
     subst (λ y. across_by y (k * s) x1 x2 (10 ^ 6) ≡ k * k * k * across n x1 x2 s) u (scaled_by k (n - s) s x1 x2 (10 ^ 6))
+
+-- ---- the weights
+
+weights_of : (u s : ℕ) → 3 * u * u * s + 3 * u * s * s + s * s * s ≤ (u + s) * (u + s) * (u + s)
+weights_of u s = omega arith
+
+pub weights_le : (n s : ℕ) → s ≤ n → first_weight n s + second_weight n s + end_weight s ≤ n * n * n
+weights_le n s h =
+    let e : (n - s) + s ≡ n = omega arith in
+    subst (λ y. first_weight n s + second_weight n s + end_weight s ≤ y * y * y) e (weights_of (n - s) s)

@@ -1,7 +1,7 @@
 -- A cubic Bézier curve from (0, 0) to (1, 1): its parts and their ranges, its place at a progress, and its value.
 --
--- Control numbers are in millionths. A parameter goes along the curve in steps of one n-th, from 0 to n; the
--- product's n is ONE. How far across and how high the curve is there is in millionths of n * n * n.
+-- Control numbers are in millionths. A parameter s goes along the curve in n steps, from 0 to n; an easing takes ONE
+-- of them. How far across and how high the curve is at s is in millionths of n * n * n.
 use Rattle.std.specs.Prelude.{ℕ, zero, suc, ◌+◌, ◌-◌, ◌*◌, ◌^◌, ◌≤◌, ℤ, pos, ◌+ℤ◌, ◌*ℤ◌, int_le, unsigned_abs, Bool, not, ◌&&◌, nat_le, if◌then◌else◌, Option, Some, None}
 use Rattle.std.specs.Int.{int_div_euclid}
 use Rattle.easing_fixed.specs.declared.TheConstants.{ONE}
@@ -54,9 +54,12 @@ height n y1 y2 s = pos (first_weight n s) *ℤ y1 +ℤ pos (second_weight n s) *
 
 -- ---- the place at a progress
 
--- the progress p, in the unit of `across ONE`
+-- what 1 of a progress or a value is, in the unit of `across ONE` and `height ONE`
+abbrev pub unit : ℕ
+unit = ONE * ONE * 10 ^ 6
+
 abbrev pub bound : ℕ → ℕ
-bound p = p * (ONE * ONE * 10 ^ 6)
+bound p = p * unit
 
 -- s is the place: the greatest parameter at which the curve is no farther across than p
 pub record IsPlace (x1 x2 p s : ℕ) : Type 0 where
@@ -71,7 +74,8 @@ is_not_past x1 x2 p s = nat_le s ONE && nat_le (across ONE x1 x2 s) (bound p)
 -- Bit by bit from the highest down, a bit is set where the number still passes the test.
 abbrev pub greatest_from : (ℕ → Bool) → ℕ → ℕ → ℕ
 greatest_from test zero number = number
-greatest_from test (suc bits) number = greatest_from test bits (if test (number + 2 ^ bits) then number + 2 ^ bits else number)
+greatest_from test (suc bits) number =
+    greatest_from test bits (if test (number + 2 ^ bits) then number + 2 ^ bits else number)
 
 -- the place, computed: it is the one number that is the place, by a law of this crate
 unfoldable pub place : ℕ → ℕ → ℕ → ℕ
@@ -80,4 +84,5 @@ place x1 x2 p = greatest_from (is_not_past x1 x2 p) 21 0
 -- ---- the value
 
 unfoldable pub cubic_value : CubicParts → ℕ → ℤ
-cubic_value c p = int_div_euclid (height ONE c.y1 c.y2 (place (unsigned_abs c.x1) (unsigned_abs c.x2) p)) (pos (ONE * ONE * 10 ^ 6))
+cubic_value c p =
+    int_div_euclid (height ONE c.y1 c.y2 (place (unsigned_abs c.x1) (unsigned_abs c.x2) p)) (pos unit)

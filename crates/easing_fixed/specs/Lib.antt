@@ -1,3 +1,4 @@
 pub mod Steps
 pub mod Cubics
 pub mod Easings
+pub mod Worked

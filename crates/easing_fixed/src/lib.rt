@@ -6,11 +6,12 @@
 #![tactic(auto)]
 
 pub mod cubic;
+mod curve;
 pub mod easing;
 pub mod fault;
+pub mod laws;
 pub mod position;
 pub mod step;
-mod weight;
 pub mod worked;
 
 pub use cubic::CubicShape;
@@ -21,3 +22,6 @@ pub use step::StepShape;
 
 /// What stands for 1, in a progress and in what an easing gives: 2^20.
 pub const ONE: u32 = 1 << 20;
+
+#[cfg(test)]
+mod tests;

@@ -2,9 +2,8 @@ ghost use Rattle.std.specs.Prelude.{◌≡◌, ◌+◌, ◌*◌, ◌^◌, ◌<�
 ghost use Rattle.std.specs.Result.{result_err};
 ghost use Rattle.easing_fixed.specs.Steps.{step_parts, step_refusal, jumps, step, step_value};
 
-use std::marker::Model;
-
 use crate::{EasingFault, ONE, StepPosition};
+use std::marker::Model;
 
 /// A step function: how many steps, and where it jumps.
 #[derive(Clone, Copy, Debug, PartialEq, Eq, Hash)]
@@ -38,12 +37,20 @@ impl StepShape {
         Ok(StepShape { count, position })
     }
 
+    // The step function of this count and position.
+    pub(crate) fn of(count: u32, position: StepPosition) -> StepShape
+        requires { step_refusal (step_parts count position) ≡ None }
+        ensures { result ≡ step_parts count position }
+    {
+        StepShape { count, position }
+    }
+
     /// How many steps there are.
     pub fn count(&self) -> u32
         ensures value { result ≡ self.now.count }
 
         // What holds of every shape: `new` would take its parts.
-        ensures taken { step_refusal self.now ≡ None }
+        ensures in_range { step_refusal self.now ≡ None }
     {
         self.count
     }

@@ -7,7 +7,7 @@ use Rattle.micro_time.specs.Timings.{TimingParts, curve_time}
 use Rattle.value_blend.specs.Blends.{blend_opacity}
 use Rattle.transform_ops.specs.declared.op.TransformOp.{TransformOp}
 use Rattle.transform_ops.specs.Lists.{blend_lists}
-use Rattle.curve_keys.specs.Curves.{Keyframes, duration, curve_value}
+use Rattle.curve_keys.specs.Curves.{Keyframes, duration_of, curve_value}
 
 -- ---- curves and values of a property
 
@@ -25,8 +25,8 @@ property_of_curve (OpacityCurve curve) = Opacity
 property_of_curve (TransformCurve curve) = Transform
 
 abbrev pub curve_duration : PropertyCurve → ℕ
-curve_duration (OpacityCurve curve) = duration curve
-curve_duration (TransformCurve curve) = duration curve
+curve_duration (OpacityCurve curve) = duration_of curve
+curve_duration (TransformCurve curve) = duration_of curve
 
 -- the value of the curve at a time of the curve
 abbrev pub value_on : PropertyCurve → ℕ → Option PropertyValue

@@ -1,7 +1,7 @@
 //! Values worked out by hand, which the check computes from the definitions.
 
 ghost use Rattle.std.specs.Prelude.{◌≡◌, Some, None, pos, negsuc};
-ghost use Rattle.keyframe_model.specs.Examples.{fade_in};
+ghost use Rattle.keyframe_model.specs.Worked.{fade_in};
 ghost use Rattle.keyframe_model.specs.Models.{OpacityValue, model_value};
 
 /// The opacity a third of a second after the start.

@@ -9,10 +9,9 @@ use std::marker::Model;
 
 /// When an animation runs, and in which order it runs through its curve.
 ///
-/// The time equations are after those of cc/animation and Web Animations: a local time and the offset make the
-/// time that has elapsed, this times the rate is the progress, and the progress gives the iteration and the part
-/// of it. Whole microseconds and thousandths, the ranges, and that a curve time is rounded down once at the end,
-/// are this project's own.
+/// The equations follow the outline of cc/animation and of Web Animations: a local time and the offset make the time
+/// that has elapsed, this and the rate make the progress, and the progress gives an iteration and a part of it. The
+/// units and ranges, that nothing is rounded before the last step, and the rule for the fill are this project's own.
 #[derive(Clone, Copy, Debug, PartialEq, Eq, Hash)]
 pub struct Timing {
     duration: u64,
@@ -100,7 +99,7 @@ impl Timing {
         ensures value { result ≡ self.now.duration }
 
         // What holds of every timing: `new` would take its parts.
-        ensures taken { refusal self.now ≡ None }
+        ensures in_range { refusal self.now ≡ None }
     {
         self.duration
     }
@@ -248,7 +247,8 @@ impl Timing {
     // The place in the iterations, counted from the beginning of iteration 0.
     fn place(&self, phase: Phase, local: i64) -> u128
         requires { unsigned_abs local ≤ 2 ^ 52 }
-        ensures { result ≡ place_in phase self.now local }
+        ensures value { result ≡ place_in phase self.now local }
+        ensures size { result < 2 ^ 73 }
     {
         let progress = self.progress(phase, local);
         let forwards = if self.rate < 0 {

@@ -5,8 +5,8 @@ use Rattle.std.proofs.lemmas.List.Folds.{length-prefix_len}
 use Rattle.std.proofs.lemmas.List.Sums.{prefix_len-le-length}
 use Rattle.std.proofs.lemmas.Slice.Zip.{length-zip}
 use Rattle.transform_ops.specs.declared.op.TransformOp.{TransformOp}
-use Rattle.transform_ops.specs.Operations.{matches, neutral, blend_operations}
-use Rattle.transform_ops.specs.Lists.{match_len, nearer, blend_lists}
+use Rattle.transform_ops.specs.Operations.{matches, neutral_of, blend_operations}
+use Rattle.transform_ops.specs.Lists.{match_len, nearer_list, blend_lists}
 
 abbrev pub pair_matches : TransformOp × TransformOp → Bool
 pair_matches p = matches p.0 p.1
@@ -56,7 +56,7 @@ split-at : (n : ℕ) (a b : TransformOp) (from to : List TransformOp) (progress 
     suc n ≤ (if m then 1 + match_len from to else 0) →
     (n ≤ match_len from to → front n from to progress ++ rest n from to progress ≡ blend_lists from to progress) →
     blend_operations a b progress ∷ (front n from to progress ++ rest n from to progress) ≡
-    (if m then blend_operations a b progress ∷ blend_lists from to progress else nearer (a ∷ from) (b ∷ to) progress)
+    (if m then blend_operations a b progress ∷ blend_lists from to progress else nearer_list (a ∷ from) (b ∷ to) progress)
 split-at n a b from to progress true h split = ap (λ ops. blend_operations a b progress ∷ ops) (split (omega arith))
 split-at n a b from to progress false h split = absurd (omega arith)
 
@@ -82,12 +82,12 @@ match_len-drop (suc n) (a ∷ from) (b ∷ to) is = drop-at n a b from to (match
 -- ---- what is left where no more operations match
 
 pub rest_from_none : (from to : List TransformOp) (progress : ℤ) → length from ≡ 0 →
-    blend_lists from to progress ≡ map (λ b. blend_operations (neutral b) b progress) to
+    blend_lists from to progress ≡ map (λ b. blend_operations (neutral_of b) b progress) to
 rest_from_none [] to progress none = refl
 rest_from_none (a ∷ from) to progress none = absurd (omega arith)
 
 pub rest_to_none : (from to : List TransformOp) (progress : ℤ) → length to ≡ 0 →
-    blend_lists from to progress ≡ map (λ a. blend_operations a (neutral a) progress) from
+    blend_lists from to progress ≡ map (λ a. blend_operations a (neutral_of a) progress) from
 rest_to_none [] [] progress none = refl
 rest_to_none (a ∷ from) [] progress none = refl
 rest_to_none from (b ∷ to) progress none = absurd (omega arith)
@@ -98,12 +98,12 @@ rest-at true n c ops other none = absurd (omega arith)
 rest-at false n c ops other none = refl
 
 pub rest_nearer : (from to : List TransformOp) (progress : ℤ) → match_len from to ≡ 0 → 0 < length from → 0 < length to →
-    blend_lists from to progress ≡ nearer from to progress
+    blend_lists from to progress ≡ nearer_list from to progress
 rest_nearer [] to progress none f t = absurd (omega arith)
 rest_nearer (a ∷ from) [] progress none f t = absurd (omega arith)
 rest_nearer (a ∷ from) (b ∷ to) progress none f t =
     rest-at (matches a b) (match_len from to) (blend_operations a b progress) (blend_lists from to progress)
-    (nearer (a ∷ from) (b ∷ to) progress) none
+    (nearer_list (a ∷ from) (b ∷ to) progress) none
 
 -- ---- the whole
 

@@ -4,9 +4,9 @@ use Rattle.std.specs.List.{AllByRecursion}
 use Rattle.std.proofs.lemmas.List.{length-map}
 use Rattle.value_blend.specs.declared.TheConstants.{ONE}
 use Rattle.transform_ops.specs.declared.op.TransformOp.{TransformOp}
-use Rattle.transform_ops.specs.Operations.{matches, neutral, IsOperation, blend_operations}
+use Rattle.transform_ops.specs.Operations.{matches, neutral_of, IsOperation, blend_operations}
 use Rattle.transform_ops.specs.OperationLemmas.{IsOperation-blend_operations, IsOperation-neutral}
-use Rattle.transform_ops.specs.Lists.{IsTransform, nearer, blend_lists}
+use Rattle.transform_ops.specs.Lists.{IsTransform, nearer_list, blend_lists}
 
 pub All-from_recursion : (ops : List TransformOp) → AllByRecursion IsOperation ops → All IsOperation ops
 All-from_recursion [] h k d below = absurd (omega arith)
@@ -21,7 +21,7 @@ All-drop (suc n) (a ∷ ops) h = All-drop n ops h.1
 -- ---- the length
 
 nearer-short : (from to : List TransformOp) (progress : ℤ) (n : ℕ) → length from ≤ n → length to ≤ n →
-    length (nearer from to progress) ≤ n
+    length (nearer_list from to progress) ≤ n
 nearer-short from to progress n f t =
     elim (int_lt progress (pos (ONE / 2))) as (λ first. length (if first then from else to) ≤ n) [ true ↦ f | false ↦ t ]
 
@@ -32,31 +32,31 @@ short-at false c ops other n o r = r
 
 pub length-blend_lists : (from to : List TransformOp) (progress : ℤ) (n : ℕ) → length from ≤ n → length to ≤ n →
     length (blend_lists from to progress) ≤ n
-length-blend_lists [] to progress n f t = rw (length-map to (λ b. blend_operations (neutral b) b progress)) t
-length-blend_lists (a ∷ from) [] progress n f t = rw (length-map from (λ a. blend_operations a (neutral a) progress)) f
+length-blend_lists [] to progress n f t = rw (length-map to (λ b. blend_operations (neutral_of b) b progress)) t
+length-blend_lists (a ∷ from) [] progress n f t = rw (length-map from (λ a. blend_operations a (neutral_of a) progress)) f
 length-blend_lists (a ∷ from) (b ∷ to) progress zero f t = absurd (omega arith)
 length-blend_lists (a ∷ from) (b ∷ to) progress (suc n) f t =
     let shorter = length-blend_lists from to progress n (omega arith) (omega arith) in
-    short-at (matches a b) (blend_operations a b progress) (blend_lists from to progress) (nearer (a ∷ from) (b ∷ to) progress) (suc n)
+    short-at (matches a b) (blend_operations a b progress) (blend_lists from to progress) (nearer_list (a ∷ from) (b ∷ to) progress) (suc n)
     (omega arith)
     (nearer-short (a ∷ from) (b ∷ to) progress (suc n) f t)
 
 -- ---- the numbers
 
 from_none-within : (to : List TransformOp) (progress : ℤ) → AllByRecursion IsOperation to →
-    AllByRecursion IsOperation (map (λ b. blend_operations (neutral b) b progress) to)
+    AllByRecursion IsOperation (map (λ b. blend_operations (neutral_of b) b progress) to)
 from_none-within [] progress t = tt
 from_none-within (b ∷ to) progress t =
-    (IsOperation-blend_operations (neutral b) b progress (IsOperation-neutral b t.0), from_none-within to progress t.1)
+    (IsOperation-blend_operations (neutral_of b) b progress (IsOperation-neutral b t.0), from_none-within to progress t.1)
 
 to_none-within : (from : List TransformOp) (progress : ℤ) → AllByRecursion IsOperation from →
-    AllByRecursion IsOperation (map (λ a. blend_operations a (neutral a) progress) from)
+    AllByRecursion IsOperation (map (λ a. blend_operations a (neutral_of a) progress) from)
 to_none-within [] progress f = tt
 to_none-within (a ∷ from) progress f =
-    (IsOperation-blend_operations a (neutral a) progress f.0, to_none-within from progress f.1)
+    (IsOperation-blend_operations a (neutral_of a) progress f.0, to_none-within from progress f.1)
 
 nearer-within : (from to : List TransformOp) (progress : ℤ) → AllByRecursion IsOperation from → AllByRecursion IsOperation to →
-    AllByRecursion IsOperation (nearer from to progress)
+    AllByRecursion IsOperation (nearer_list from to progress)
 nearer-within from to progress f t =
     elim (int_lt progress (pos (ONE / 2))) as (λ first. AllByRecursion IsOperation (if first then from else to)) [ true ↦ f | false ↦ t ]
 
@@ -70,7 +70,7 @@ pub blend_lists-within : (from to : List TransformOp) (progress : ℤ) → AllBy
 blend_lists-within [] to progress f t = from_none-within to progress t
 blend_lists-within (a ∷ from) [] progress f t = to_none-within (a ∷ from) progress f
 blend_lists-within (a ∷ from) (b ∷ to) progress f t =
-    within-at (matches a b) (blend_operations a b progress) (blend_lists from to progress) (nearer (a ∷ from) (b ∷ to) progress)
+    within-at (matches a b) (blend_operations a b progress) (blend_lists from to progress) (nearer_list (a ∷ from) (b ∷ to) progress)
     (IsOperation-blend_operations a b progress f.0)
     (blend_lists-within from to progress f.1 t.1)
     (nearer-within (a ∷ from) (b ∷ to) progress f t)

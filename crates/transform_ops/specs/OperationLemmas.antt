@@ -3,10 +3,11 @@ use Rattle.std.proofs.Common.{◌≡◌, true, ◌&&◌, ℤ, pos, refl, arith}
 use Rattle.std.proofs.lemmas.Bool.Decides.{Decides-int_eq}
 use Rattle.std.specs.Ordering.{int_eq}
 use Rattle.value_blend.specs.declared.TheConstants.{ONE}
+use Rattle.value_blend.specs.Blends.{IsNumber}
 use Rattle.value_blend.specs.BlendLemmas.{IsNumber-blend_number, blend_number-begin, blend_number-end}
 use Rattle.transform_ops.specs.declared.op.TransformOp.{TransformOp}
 use Rattle.transform_ops.specs.declared.op.TransformOp.TheVariants.{Translate, Scale, Rotate, Skew}
-use Rattle.transform_ops.specs.Operations.{IsOperation, IsNeutral, matches, neutral, blend_operations}
+use Rattle.transform_ops.specs.Operations.{IsOperation, IsNeutral, matches, neutral_of, blend_operations}
 
 -- ---- matching
 
@@ -20,27 +21,21 @@ same_axis x y z u v w m =
     let c = Decides-int_eq z w in
     grind arith
 
-pub matches-neutral_left : (a : TransformOp) → matches (neutral a) a ≡ true
+pub matches-neutral_left : (a : TransformOp) → matches (neutral_of a) a ≡ true
 matches-neutral_left (Translate x y z) = refl
 matches-neutral_left (Scale x y z) = refl
 matches-neutral_left (Rotate x y z angle) = rw (int_eq-same x, int_eq-same y, int_eq-same z) refl
 matches-neutral_left (Skew x y) = refl
 
-pub matches-neutral_right : (a : TransformOp) → matches a (neutral a) ≡ true
-matches-neutral_right (Translate x y z) = refl
-matches-neutral_right (Scale x y z) = refl
-matches-neutral_right (Rotate x y z angle) = rw (int_eq-same x, int_eq-same y, int_eq-same z) refl
-matches-neutral_right (Skew x y) = refl
-
 -- ---- neutral operations
 
-pub IsOperation-neutral : (a : TransformOp) → IsOperation a → IsOperation (neutral a)
+pub IsOperation-neutral : (a : TransformOp) → IsOperation a → IsOperation (neutral_of a)
 IsOperation-neutral (Translate x y z) h = (omega arith, omega arith, omega arith)
 IsOperation-neutral (Scale x y z) h = (omega arith, omega arith, omega arith)
 IsOperation-neutral (Rotate x y z angle) h = (h.0, h.1, h.2, omega arith)
 IsOperation-neutral (Skew x y) h = (omega arith, omega arith)
 
-pub IsNeutral-neutral : (a : TransformOp) → IsNeutral (neutral a)
+pub IsNeutral-neutral : (a : TransformOp) → IsNeutral (neutral_of a)
 IsNeutral-neutral (Translate x y z) = refl
 IsNeutral-neutral (Scale x y z) = refl
 IsNeutral-neutral (Rotate x y z angle) = refl
@@ -81,8 +76,26 @@ blend_operations-end a b h m = absurd (cc)
 
 -- ---- blends with the neutral operation
 
-pub blend_operations-neutral_begin : (b : TransformOp) → IsOperation b → blend_operations (neutral b) b (pos 0) ≡ neutral b
-blend_operations-neutral_begin b h = blend_operations-begin (neutral b) b (IsOperation-neutral b h)
+zero_is_number : IsNumber (pos 0)
+zero_is_number = omega arith
 
-pub blend_operations-neutral_end : (a : TransformOp) → IsOperation a → blend_operations a (neutral a) (pos ONE) ≡ neutral a
-blend_operations-neutral_end a h = blend_operations-end a (neutral a) (IsOperation-neutral a h) (matches-neutral_right a)
+million_is_number : IsNumber (pos 1000000)
+million_is_number = omega arith
+
+pub blend_operations-neutral_begin : (b : TransformOp) → blend_operations (neutral_of b) b (pos 0) ≡ neutral_of b
+blend_operations-neutral_begin (Translate u v w) =
+    rw (blend_number-begin (pos 0) u zero_is_number, blend_number-begin (pos 0) v zero_is_number, blend_number-begin (pos 0) w zero_is_number) refl
+blend_operations-neutral_begin (Scale u v w) =
+    rw (blend_number-begin (pos 1000000) u million_is_number, blend_number-begin (pos 1000000) v million_is_number, blend_number-begin (pos 1000000) w million_is_number) refl
+blend_operations-neutral_begin (Rotate u v w other) = rw (blend_number-begin (pos 0) other zero_is_number) refl
+blend_operations-neutral_begin (Skew u v) =
+    rw (blend_number-begin (pos 0) u zero_is_number, blend_number-begin (pos 0) v zero_is_number) refl
+
+pub blend_operations-neutral_end : (a : TransformOp) → blend_operations a (neutral_of a) (pos ONE) ≡ neutral_of a
+blend_operations-neutral_end (Translate x y z) =
+    rw (blend_number-end x (pos 0) zero_is_number, blend_number-end y (pos 0) zero_is_number, blend_number-end z (pos 0) zero_is_number) refl
+blend_operations-neutral_end (Scale x y z) =
+    rw (blend_number-end x (pos 1000000) million_is_number, blend_number-end y (pos 1000000) million_is_number, blend_number-end z (pos 1000000) million_is_number) refl
+blend_operations-neutral_end (Rotate x y z angle) = rw (blend_number-end angle (pos 0) zero_is_number) refl
+blend_operations-neutral_end (Skew x y) =
+    rw (blend_number-end x (pos 0) zero_is_number, blend_number-end y (pos 0) zero_is_number) refl

@@ -28,14 +28,14 @@ matches (Skew x y) (Skew u v) = true
 matches _ _ = false
 
 -- the operation of the same kind, and about the same axis, that does nothing
-abbrev pub neutral : TransformOp → TransformOp
-neutral (Translate x y z) = Translate (pos 0) (pos 0) (pos 0)
-neutral (Scale x y z) = Scale (pos 1000000) (pos 1000000) (pos 1000000)
-neutral (Rotate x y z angle) = Rotate x y z (pos 0)
-neutral (Skew x y) = Skew (pos 0) (pos 0)
+abbrev pub neutral_of : TransformOp → TransformOp
+neutral_of (Translate x y z) = Translate (pos 0) (pos 0) (pos 0)
+neutral_of (Scale x y z) = Scale (pos 1000000) (pos 1000000) (pos 1000000)
+neutral_of (Rotate x y z angle) = Rotate x y z (pos 0)
+neutral_of (Skew x y) = Skew (pos 0) (pos 0)
 
 abbrev pub IsNeutral : TransformOp → Type 0
-IsNeutral op = op ≡ neutral op
+IsNeutral op = op ≡ neutral_of op
 
 -- The blend of two operations that match, number by number; a rotate keeps its axis. Others are never blended.
 abbrev pub blend_operations : TransformOp → TransformOp → ℤ → TransformOp

@@ -4,6 +4,7 @@
 //! operations match; a missing operation is its neutral one.
 #![tactic(auto)]
 
+pub mod ends;
 pub mod fault;
 pub mod list;
 pub mod op;

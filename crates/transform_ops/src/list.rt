@@ -1,7 +1,7 @@
 ghost use Rattle.std.specs.Prelude.{◌≡◌, ◌≢◌, ◌<◌, ◌≤◌, ◌^◌, ◌↔◌, [], ◌++◌, length, map, All, unsigned_abs, IsTrue, OnOk, IfOk, slice_get, Some};
 ghost use Rattle.std.specs.List.{AllByRecursion, list_all, take_while, zip};
 ghost use Rattle.std.specs.Result.{result_err};
-ghost use Rattle.transform_ops.specs.Operations.{IsOperation, is_operation, matches, neutral, blend_operations};
+ghost use Rattle.transform_ops.specs.Operations.{IsOperation, is_operation, matches, neutral_of, blend_operations};
 ghost use Rattle.transform_ops.specs.Lists.{IsTransform, list_refusal, match_len, blend_lists};
 
 use crate::{ListFault, TransformOp};
@@ -113,9 +113,9 @@ impl Blend for TransformList {
         Ok(TransformList { ops })
     }
 
-    ghost begins_alike = { blend_lists-begin };
+    ghost begins_alike = { λ from to f t. blend_lists-begin from to f };
 
-    ghost ends_alike = { blend_lists-end };
+    ghost ends_alike = { λ from to f t. blend_lists-end from to t };
 }
 
 /// Half of the way, from which on the second of two lists that can't be blended is the nearer one.
@@ -192,7 +192,7 @@ fn push_from_neutral(
     requires to_within { All IsOperation to.now }
     requires progress_within { unsigned_abs progress ≤ 2 ^ 24 }
     ensures { OnOk result (ops.new.items
-        ≡ ops.old.items ++ map (λ b. blend_operations (neutral b) b progress) to.now) }
+        ≡ ops.old.items ++ map (λ b. blend_operations (neutral_of b) b progress) to.now) }
 {
     for b in to {
         ops.push(b.neutral().blend(*b, progress))?;
@@ -209,7 +209,7 @@ fn push_to_neutral(
     requires from_within { All IsOperation from.now }
     requires progress_within { unsigned_abs progress ≤ 2 ^ 24 }
     ensures { OnOk result (ops.new.items
-        ≡ ops.old.items ++ map (λ a. blend_operations a (neutral a) progress) from.now) }
+        ≡ ops.old.items ++ map (λ a. blend_operations a (neutral_of a) progress) from.now) }
 {
     for a in from {
         ops.push(a.blend(a.neutral(), progress))?;

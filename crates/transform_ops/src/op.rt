@@ -17,7 +17,7 @@ pub enum TransformOp {
 }
 
 impl TransformOp {
-    ghost use Rattle.transform_ops.specs.Operations.{IsOperation, is_operation, matches, neutral, blend_operations};
+    ghost use Rattle.transform_ops.specs.Operations.{IsOperation, is_operation, matches, neutral_of, blend_operations};
 
     /// Whether every number is in range.
     pub fn is_in_range(self) -> bool
@@ -57,7 +57,7 @@ impl TransformOp {
 
     /// The operation of the same kind, and about the same axis, that does nothing.
     pub fn neutral(self) -> TransformOp
-        ensures { result ≡ neutral self }
+        ensures { result ≡ neutral_of self }
     {
         match self {
             TransformOp::Translate { .. } => TransformOp::Translate { x: 0, y: 0, z: 0 },

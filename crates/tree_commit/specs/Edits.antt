@@ -1,5 +1,5 @@
 -- Edits of main's tree: what each changes, and why one is refused.
-use Rattle.std.specs.Prelude.{ℕ, ◌+◌, ◌==◌, nat_le, nat_lt, Bool, true, false, not, ◌&&◌, ◌||◌, nat_eq, if◌then◌else◌, List, [], ◌∷◌, ◌++◌, length, find, Option, Some, None}
+use Rattle.std.specs.Prelude.{ℕ, ◌+◌, ◌==◌, nat_le, nat_lt, Bool, false, not, ◌&&◌, ◌||◌, nat_eq, if◌then◌else◌, List, [], ◌∷◌, ◌++◌, length, find, Option, Some, None}
 use Rattle.std.specs.List.{list_any}
 use Rattle.std.specs.Option.{option_eq}
 use Rattle.anim_names.specs.declared.limit.LimitName.TheVariants.{Elements, Models, Timelines}
@@ -8,7 +8,7 @@ use Rattle.transform_ops.specs.declared.op.TransformOp.{TransformOp}
 use Rattle.keyframe_model.specs.Models.{Spec, property_of, same_property}
 use Rattle.tree_commit.specs.declared.refusal.EditRefusal.{EditRefusal}
 use Rattle.tree_commit.specs.declared.refusal.EditRefusal.TheVariants.{ElementThere, ElementNotThere, ModelIdUsed, ModelUnknown, TimelineThere, TimelineUnknown, GroupClosed, GroupMixed, Limit}
-use Rattle.tree_commit.specs.Trees.{Look, Element, Clock, TreeLists}
+use Rattle.tree_commit.specs.Trees.{Look, Element, TreeLists}
 
 -- ---- edits and their effect
 
@@ -26,7 +26,7 @@ abbrev pub without : {A : Type 0} → (A → Bool) → List A → List A
 without test [] = []
 without test (x ∷ xs) = if test x then xs else x ∷ without test xs
 
--- the elements, with a new look for the one of this id
+-- the elements, with a changed look of the one of this id
 abbrev pub with_look : ℕ → (Look → Look) → List Element → List Element
 with_look id change [] = []
 with_look id change (element ∷ elements) =
@@ -40,35 +40,37 @@ abbrev pub without_model : TreeLists → ℕ → TreeLists
 without_model tree id = record tree { models = without (λ model. id == model.id) tree.models }
 
 -- The tree after an edit. What is added goes last. A model stays when its element is removed.
-unfoldable pub edited : TreeLists → Change → TreeLists
-edited tree (AddElement id look) = record tree { elements = tree.elements ++ record { id = id; look = look } ∷ [] }
-edited tree (RemoveElement id) = without_element tree id
-edited tree (SetOpacity id opacity) = record tree { elements = with_look id (λ look. record look { opacity = opacity }) tree.elements }
-edited tree (SetTransform id ops) = record tree { elements = with_look id (λ look. record look { transform = ops }) tree.elements }
-edited tree (AddTimeline id origin) = record tree { timelines = tree.timelines ++ record { id = id; origin = origin } ∷ [] }
-edited tree (AddModel model) = record tree { models = tree.models ++ model ∷ [] }
-edited tree (RemoveModel id) = without_model tree id
+unfoldable pub tree_after : TreeLists → Change → TreeLists
+tree_after tree (AddElement id look) = record tree { elements = tree.elements ++ record { id = id; look = look } ∷ [] }
+tree_after tree (RemoveElement id) = without_element tree id
+tree_after tree (SetOpacity id opacity) =
+    record tree { elements = with_look id (λ look. record look { opacity = opacity }) tree.elements }
+tree_after tree (SetTransform id transform) =
+    record tree { elements = with_look id (λ look. record look { transform = transform }) tree.elements }
+tree_after tree (AddTimeline id origin) = record tree { timelines = tree.timelines ++ record { id = id; origin = origin } ∷ [] }
+tree_after tree (AddModel model) = record tree { models = tree.models ++ model ∷ [] }
+tree_after tree (RemoveModel id) = without_model tree id
 
 -- ---- what an edit is checked against
 
--- What the models ever added to a group have: one element, one timeline and one given start, and properties that differ.
-pub record Shape : Type 0 where
+-- What all models ever added to a group have: one element, one timeline and one given start, and properties that differ.
+-- Beside it stands how many commits there were when the first of them was added.
+pub record GroupParts : Type 0 where
   pub group : ℕ
   pub element : ℕ
   pub timeline : ℕ
   pub start : Option ℕ
   pub properties : List Property
-  -- how many commits there were when its first model was added
-  pub commits : ℕ
+  pub commits_before : ℕ
 
--- Which elements are in the tree, and how often one was ever added; which timelines there are; which model ids were
--- ever used; the groups; how many commits there were. Nothing here depends on what main hears.
+-- Which elements are in the tree, and how often one was ever added; the timelines; the model ids that were ever used;
+-- the groups; and how many commits there were. Nothing here depends on what main hears.
 pub record Book : Type 0 where
   pub elements : List ℕ
   pub elements_added : ℕ
   pub timelines : List ℕ
   pub models : List ℕ
-  pub groups : List Shape
+  pub groups : List GroupParts
   pub commits : ℕ
 
 abbrev pub new_book : Book
@@ -77,34 +79,34 @@ new_book = record { elements = []; elements_added = 0; timelines = []; models = 
 abbrev pub is_in : ℕ → List ℕ → Bool
 is_in id ids = list_any (λ other. id == other) ids
 
-abbrev pub shape_of : Book → ℕ → Option Shape
-shape_of book group = find (λ shape. group == shape.group) book.groups
+abbrev pub parts_of : Book → ℕ → Option GroupParts
+parts_of book group = find (λ parts. group == parts.group) book.groups
 
 -- ---- refusals
 
--- A commit came since the group's first model was added.
-abbrev pub is_closed : ℕ → Option Shape → Bool
+-- a commit came since the first model of the group
+abbrev pub is_closed : ℕ → Option GroupParts → Bool
 is_closed commits None = false
-is_closed commits (Some shape) = nat_lt shape.commits commits
+is_closed commits (Some parts) = nat_lt parts.commits_before commits
 
--- The group's models have another element, timeline or given start, or one of them has the property.
-abbrev pub is_mixed : ℕ → ℕ → Option ℕ → Property → Option Shape → Bool
+-- the group has another element, timeline or given start, or has the property already
+abbrev pub is_mixed : ℕ → ℕ → Option ℕ → Property → Option GroupParts → Bool
 is_mixed element timeline start property None = false
-is_mixed element timeline start property (Some shape) =
-    not (element == shape.element && timeline == shape.timeline && option_eq nat_eq start shape.start)
-    || list_any (same_property property) shape.properties
+is_mixed element timeline start property (Some parts) =
+    not (element == parts.element && timeline == parts.timeline && option_eq nat_eq start parts.start)
+    || list_any (same_property property) parts.properties
 
--- the first reason not to add a model with these parts
+-- why no model with these parts may be added: the first reason in this order
 unfoldable pub model_refusal : Book → ℕ → ℕ → ℕ → ℕ → Option ℕ → Property → Option EditRefusal
 model_refusal book id group element timeline start property =
     if is_in id book.models then Some ModelIdUsed else
     if not (is_in timeline book.timelines) then Some TimelineUnknown else
-    if is_closed book.commits (shape_of book group) then Some GroupClosed else
-    if is_mixed element timeline start property (shape_of book group) then Some GroupMixed else
+    if is_closed book.commits (parts_of book group) then Some GroupClosed else
+    if is_mixed element timeline start property (parts_of book group) then Some GroupMixed else
     if nat_le 1024 (length book.models) then Some (Limit Models) else
     None
 
--- the first reason to refuse an edit
+-- why an edit is refused: the first reason in this order
 unfoldable pub edit_refusal : Book → Change → Option EditRefusal
 edit_refusal book (AddElement id look) =
     if is_in id book.elements then Some ElementThere else
@@ -112,7 +114,7 @@ edit_refusal book (AddElement id look) =
     None
 edit_refusal book (RemoveElement id) = if is_in id book.elements then None else Some ElementNotThere
 edit_refusal book (SetOpacity id opacity) = if is_in id book.elements then None else Some ElementNotThere
-edit_refusal book (SetTransform id ops) = if is_in id book.elements then None else Some ElementNotThere
+edit_refusal book (SetTransform id transform) = if is_in id book.elements then None else Some ElementNotThere
 edit_refusal book (AddTimeline id origin) =
     if is_in id book.timelines then Some TimelineThere else
     if nat_le 64 (length book.timelines) then Some (Limit Timelines) else
@@ -123,24 +125,35 @@ edit_refusal book (RemoveModel id) = if is_in id book.models then None else Some
 
 -- ---- what is kept of an edit
 
+abbrev pub new_parts : ℕ → Spec → GroupParts
+new_parts commits model = record {
+  group = model.group;
+  element = model.element;
+  timeline = model.timeline;
+  start = model.start;
+  properties = property_of model ∷ [];
+  commits_before = commits;
+}
+
 -- the groups with one more model, the first of its group or a further one
-abbrev pub with_member : ℕ → Spec → List Shape → List Shape
-with_member commits model [] =
-    record { group = model.group; element = model.element; timeline = model.timeline; start = model.start; properties = property_of model ∷ []; commits = commits } ∷ []
-with_member commits model (shape ∷ shapes) =
-    if model.group == shape.group then record shape { properties = shape.properties ++ property_of model ∷ [] } ∷ shapes else
-    shape ∷ with_member commits model shapes
+abbrev pub with_member : ℕ → Spec → List GroupParts → List GroupParts
+with_member commits model [] = new_parts commits model ∷ []
+with_member commits model (parts ∷ others) =
+    if model.group == parts.group then record parts { properties = parts.properties ++ property_of model ∷ [] } ∷ others else
+    parts ∷ with_member commits model others
 
 -- the book after an edit that was not refused
-unfoldable pub noted : Book → Change → Book
-noted book (AddElement id look) = record book { elements = book.elements ++ id ∷ []; elements_added = book.elements_added + 1 }
-noted book (RemoveElement id) = record book { elements = without (λ other. id == other) book.elements }
-noted book (SetOpacity id opacity) = book
-noted book (SetTransform id ops) = book
-noted book (AddTimeline id origin) = record book { timelines = book.timelines ++ id ∷ [] }
-noted book (AddModel model) = record book { models = book.models ++ model.id ∷ []; groups = with_member book.commits model book.groups }
-noted book (RemoveModel id) = book
+unfoldable pub book_after : Book → Change → Book
+book_after book (AddElement id look) =
+    record book { elements = book.elements ++ id ∷ []; elements_added = book.elements_added + 1 }
+book_after book (RemoveElement id) = record book { elements = without (λ other. id == other) book.elements }
+book_after book (SetOpacity id opacity) = book
+book_after book (SetTransform id transform) = book
+book_after book (AddTimeline id origin) = record book { timelines = book.timelines ++ id ∷ [] }
+book_after book (AddModel model) =
+    record book { models = book.models ++ model.id ∷ []; groups = with_member book.commits model book.groups }
+book_after book (RemoveModel id) = book
 
 -- the book after a commit
-abbrev pub after_commit : Book → Book
-after_commit book = record book { commits = book.commits + 1 }
+abbrev pub book_after_commit : Book → Book
+book_after_commit book = record book { commits = book.commits + 1 }

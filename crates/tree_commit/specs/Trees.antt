@@ -1,5 +1,5 @@
 -- Trees and commits as lists, and what is read off them.
-use Rattle.std.specs.Prelude.{ℕ, ◌==◌, Bool, if◌then◌else◌, ℤ, ◌-ℤ◌, List, [], ◌∷◌, ◌++◌, map, filter, fold, find, Option, option_map, unwrap_or}
+use Rattle.std.specs.Prelude.{ℕ, ◌==◌, Bool, if◌then◌else◌, ℤ, ◌-ℤ◌, List, [], ◌∷◌, ◌++◌, filter, fold, find, Option, option_map, unwrap_or}
 use Rattle.std.specs.List.{list_any}
 use Rattle.anim_timeline.specs.Timelines.{timeline_time}
 use Rattle.transform_ops.specs.declared.op.TransformOp.{TransformOp}
@@ -21,7 +21,7 @@ pub record Clock : Type 0 where
   pub id : ℕ
   pub origin : ℕ
 
--- a tree: its elements, its models and its timelines, each in order of insertion
+-- A tree: its elements, its models and its timelines, each in order of insertion. The element of a model need not be there.
 pub record TreeLists : Type 0 where
   pub elements : List Element
   pub models : List Spec
@@ -30,12 +30,12 @@ pub record TreeLists : Type 0 where
 abbrev pub empty_tree : TreeLists
 empty_tree = record { elements = []; models = []; timelines = [] }
 
--- a commit: main's tree as it was at a commit step, and which commit step it was, from 1 on
+-- a commit: main's tree as it was at a commit step, and which commit step that was, from 1 on
 pub record Committed : Type 0 where
   pub number : ℕ
   pub tree : TreeLists
 
--- commit 0, which is active before any other is
+-- commit 0, which is active before any other
 abbrev pub empty_commit : Committed
 empty_commit = record { number = 0; tree = empty_tree }
 
@@ -52,30 +52,32 @@ model_with tree id = find (λ model. id == model.id) tree.models
 
 -- ---- timelines
 
--- the tick at which a timeline of the tree shows 0; a commit has the timelines of all its models
+-- the tick at which a timeline of the tree shows 0; the timelines of all its models are there
 abbrev pub origin_of : TreeLists → ℕ → ℕ
-origin_of tree timeline = unwrap_or (option_map (λ clock. clock.origin) (find (λ clock. timeline == clock.id) tree.timelines)) 0
+origin_of tree id = unwrap_or (option_map (λ clock. clock.origin) (find (λ clock. id == clock.id) tree.timelines)) 0
 
 -- what a model's timeline shows at a tick
 abbrev pub time_of : TreeLists → ℕ → Spec → ℤ
 time_of tree tick model = timeline_time (origin_of tree model.timeline) tick
 
--- the model's local time at a tick, for the start that was recorded when it started
+-- a model's local time at a tick: how long ago, on its timeline, the start was that was recorded for it
 abbrev pub local_time : TreeLists → ℕ → Spec → ℤ → ℤ
 local_time tree tick model start = time_of tree tick model -ℤ start
 
 -- ---- groups
 
 -- the models of a group, in the tree's order
-abbrev pub members : TreeLists → ℕ → List Spec
-members tree group = filter (λ model. group == model.group) tree.models
+abbrev pub members_of : TreeLists → ℕ → List Spec
+members_of tree group = filter (λ model. group == model.group) tree.models
 
 abbrev pub has_group : TreeLists → ℕ → Bool
 has_group tree group = list_any (λ model. group == model.group) tree.models
 
-abbrev pub note_group : List ℕ → Spec → List ℕ
-note_group groups model = if list_any (λ group. model.group == group) groups then groups else groups ++ model.group ∷ []
+-- the groups with that of one more model, last where it is not among them
+abbrev pub with_group_of : List ℕ → Spec → List ℕ
+with_group_of groups model =
+    if list_any (λ group. model.group == group) groups then groups else groups ++ model.group ∷ []
 
 -- the groups of a tree's models, in the order of their first models
-abbrev pub groups : TreeLists → List ℕ
-groups tree = fold note_group [] tree.models
+abbrev pub groups_of : TreeLists → List ℕ
+groups_of tree = fold with_group_of [] tree.models

@@ -5,6 +5,7 @@
 //! step by step, for any word of the two lanes.
 #![tactic(auto)]
 
+pub mod laws;
 pub mod mark;
 pub mod refusal;
 pub mod shown;
@@ -14,3 +15,6 @@ pub use mark::Mark;
 pub use refusal::EditRefusal;
 pub use shown::Shown;
 pub use step::CompositorStep;
+
+#[cfg(test)]
+mod tests;

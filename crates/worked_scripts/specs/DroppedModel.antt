@@ -5,7 +5,7 @@ use Rattle.micro_time.specs.declared.fill.Fill.TheVariants.{Neither}
 use Rattle.keyframe_model.specs.Models.{OpacityCurve}
 use Rattle.tree_commit.specs.declared.step.CompositorStep.TheVariants.{Pull, Activate, Tick}
 use Rattle.tree_commit.specs.Edits.{RemoveModel}
-use Rattle.tree_commit.specs.Scripts.{ScriptLists, Edit, Commit}
+use Rattle.tree_commit.specs.Scripts.{ScriptLists, EditStep, CommitStep}
 use Rattle.tree_commit.specs.Runs.{ReportLists}
 use Rattle.worked_scripts.specs.declared.TheConstants.{ABORTING_COMMIT}
 use Rattle.worked_scripts.specs.Pieces.{letters, timeline_1, element, model, runs, linear, frame, row}
@@ -16,9 +16,9 @@ script = record {
       timeline_1
       ∷ element 1 1000000
       ∷ model 1 1 (runs 1000000 1000 Neither) (OpacityCurve (linear 1000000 0 1000000))
-      ∷ Commit
-      ∷ Edit (RemoveModel 1)
-      ∷ Commit
+      ∷ CommitStep
+      ∷ EditStep (RemoveModel 1)
+      ∷ CommitStep
       ∷ [];
   compositor = Pull ∷ Activate ∷ Pull ∷ Tick 1000 ∷ Activate ∷ Tick 2000 ∷ [];
   word = letters (codes "MMMMCCMMCCCC");

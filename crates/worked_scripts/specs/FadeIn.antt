@@ -4,14 +4,14 @@ use Rattle.anim_names.specs.declared.event.AnimEvent.TheVariants.{Started}
 use Rattle.micro_time.specs.declared.fill.Fill.TheVariants.{Neither}
 use Rattle.keyframe_model.specs.Models.{OpacityCurve}
 use Rattle.tree_commit.specs.declared.step.CompositorStep.TheVariants.{Pull, Activate, Tick}
-use Rattle.tree_commit.specs.Scripts.{ScriptLists, Commit}
+use Rattle.tree_commit.specs.Scripts.{ScriptLists, CommitStep}
 use Rattle.tree_commit.specs.Runs.{ReportLists}
 use Rattle.worked_scripts.specs.declared.TheConstants.{A_THIRD_IN}
 use Rattle.worked_scripts.specs.Pieces.{letters, timeline_1, element, model, runs, linear, frame, row}
 
 abbrev pub script : ScriptLists
 script = record {
-  main = timeline_1 ∷ element 1 1000000 ∷ model 1 1 (runs 1000000 1000 Neither) (OpacityCurve (linear 1000000 0 1000000)) ∷ Commit ∷ [];
+  main = timeline_1 ∷ element 1 1000000 ∷ model 1 1 (runs 1000000 1000 Neither) (OpacityCurve (linear 1000000 0 1000000)) ∷ CommitStep ∷ [];
   compositor = Pull ∷ Activate ∷ Tick 16000 ∷ Tick 349333 ∷ Tick 516000 ∷ [];
   word = letters (codes "MMMMCCCCC");
 }

@@ -8,7 +8,7 @@ use Rattle.easing_fixed.specs.declared.position.StepPosition.TheVariants.{JumpEn
 use Rattle.keyframe_model.specs.Models.{OpacityCurve, TransformCurve}
 use Rattle.tree_commit.specs.declared.step.CompositorStep.TheVariants.{Pull, Activate, Tick}
 use Rattle.tree_commit.specs.Edits.{AddElement}
-use Rattle.tree_commit.specs.Scripts.{ScriptLists, Edit, Commit, Drain}
+use Rattle.tree_commit.specs.Scripts.{ScriptLists, EditStep, CommitStep, DrainStep}
 use Rattle.tree_commit.specs.Runs.{ReportLists}
 use Rattle.worked_scripts.specs.declared.TheConstants.{FADED_BACK}
 use Rattle.worked_scripts.specs.Pieces.{letters, timeline_1, model, runs, key, linear, moved, frame, row}
@@ -17,14 +17,14 @@ abbrev pub script : ScriptLists
 script = record {
   main =
       timeline_1
-      ∷ Edit (AddElement 1 (record { opacity = 1000000; transform = moved 0 }))
+      ∷ EditStep (AddElement 1 (record { opacity = 1000000; transform = moved 0 }))
       ∷ model 1 1 (record (runs 101000 2000 Both) { direction = Reverse }) (OpacityCurve (linear 101000 1000000 0))
       ∷ model 2 1 (runs 200000 1000 Both)
       (TransformCurve (record { keys = record (key 0 (moved 0)) { easing = Steps (record { count = 4; position = JumpEnd }) } ∷ key 200000 (moved 1000) ∷ []; easing = Linear }))
-      ∷ Commit
-      ∷ Drain
-      ∷ Commit
-      ∷ Drain
+      ∷ CommitStep
+      ∷ DrainStep
+      ∷ CommitStep
+      ∷ DrainStep
       ∷ [];
   compositor = Tick 0 ∷ Pull ∷ Activate ∷ Tick 16667 ∷ Tick 33334 ∷ Tick 50001 ∷ [];
   word = letters (codes "MMMCMMMCMMCCCC");

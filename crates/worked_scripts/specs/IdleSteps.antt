@@ -2,13 +2,13 @@
 -- nothing, and drains without news hear nothing.
 use Rattle.std.specs.Prelude.{[], ◌∷◌, codes}
 use Rattle.tree_commit.specs.declared.step.CompositorStep.TheVariants.{Pull, Activate, Tick}
-use Rattle.tree_commit.specs.Scripts.{ScriptLists, Commit, Drain}
+use Rattle.tree_commit.specs.Scripts.{ScriptLists, CommitStep, DrainStep}
 use Rattle.tree_commit.specs.Runs.{ReportLists}
 use Rattle.worked_scripts.specs.Pieces.{letters, element, frame, row}
 
 abbrev pub script : ScriptLists
 script = record {
-  main = element 1 700000 ∷ Commit ∷ Commit ∷ Drain ∷ Drain ∷ [];
+  main = element 1 700000 ∷ CommitStep ∷ CommitStep ∷ DrainStep ∷ DrainStep ∷ [];
   compositor = Pull ∷ Pull ∷ Activate ∷ Activate ∷ Tick 5 ∷ Pull ∷ Tick 6 ∷ [];
   word = letters (codes "MMCMCCCCCCMM");
 }

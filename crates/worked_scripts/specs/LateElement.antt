@@ -4,7 +4,7 @@ use Rattle.anim_names.specs.declared.event.AnimEvent.TheVariants.{Started}
 use Rattle.micro_time.specs.declared.fill.Fill.TheVariants.{Neither}
 use Rattle.keyframe_model.specs.Models.{OpacityCurve, TransformCurve}
 use Rattle.tree_commit.specs.declared.step.CompositorStep.TheVariants.{Pull, Activate, Tick}
-use Rattle.tree_commit.specs.Scripts.{ScriptLists, Commit}
+use Rattle.tree_commit.specs.Scripts.{ScriptLists, CommitStep}
 use Rattle.tree_commit.specs.Runs.{ReportLists}
 use Rattle.worked_scripts.specs.declared.TheConstants.{START_OF_THE_LATE}
 use Rattle.worked_scripts.specs.Pieces.{letters, timeline_1, element, model, runs, linear, moved, frame, row}
@@ -15,9 +15,9 @@ script = record {
       timeline_1
       ∷ model 1 1 (runs 1000 1000 Neither) (OpacityCurve (linear 1000 250000 1000000))
       ∷ model 2 1 (runs 1000 1000 Neither) (TransformCurve (linear 1000 (moved 5) (moved 9)))
-      ∷ Commit
+      ∷ CommitStep
       ∷ element 1 1000000
-      ∷ Commit
+      ∷ CommitStep
       ∷ [];
   compositor = Pull ∷ Activate ∷ Tick 1000 ∷ Pull ∷ Activate ∷ Tick 2000 ∷ [];
   word = letters (codes "MMMMCCCMMCCC");

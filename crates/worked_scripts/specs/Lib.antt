@@ -1,11 +1,16 @@
+pub mod AbortedForGood
 pub mod DroppedModel
 pub mod FadeIn
+pub mod FillBelow
 pub mod Generated
 pub mod IdleSteps
+pub mod InterleavedGroups
 pub mod LateElement
 pub mod LostElement
 pub mod NoIterations
 pub mod Pieces
+pub mod RecordedStarts
+pub mod RefusedEdits
 pub mod ReplacedCommit
 pub mod TwoOrders
 pub mod WaitingGroup

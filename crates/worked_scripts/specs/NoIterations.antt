@@ -4,13 +4,13 @@ use Rattle.anim_names.specs.declared.event.AnimEvent.TheVariants.{Started, Finis
 use Rattle.micro_time.specs.declared.fill.Fill.TheVariants.{Forwards}
 use Rattle.keyframe_model.specs.Models.{OpacityCurve}
 use Rattle.tree_commit.specs.declared.step.CompositorStep.TheVariants.{Pull, Activate, Tick}
-use Rattle.tree_commit.specs.Scripts.{ScriptLists, Commit}
+use Rattle.tree_commit.specs.Scripts.{ScriptLists, CommitStep}
 use Rattle.tree_commit.specs.Runs.{ReportLists}
 use Rattle.worked_scripts.specs.Pieces.{letters, timeline_1, element, model, runs, linear, frame, row}
 
 abbrev pub script : ScriptLists
 script = record {
-  main = timeline_1 ∷ element 1 1000000 ∷ model 1 1 (runs 1000000 0 Forwards) (OpacityCurve (linear 1000000 0 1000000)) ∷ Commit ∷ [];
+  main = timeline_1 ∷ element 1 1000000 ∷ model 1 1 (runs 1000000 0 Forwards) (OpacityCurve (linear 1000000 0 1000000)) ∷ CommitStep ∷ [];
   compositor = Pull ∷ Activate ∷ Tick 0 ∷ Tick 0 ∷ [];
   word = letters (codes "MMMMCCCC");
 }

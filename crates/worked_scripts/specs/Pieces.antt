@@ -12,9 +12,9 @@ use Rattle.transform_ops.specs.declared.op.TransformOp.{TransformOp}
 use Rattle.transform_ops.specs.declared.op.TransformOp.TheVariants.{Translate}
 use Rattle.curve_keys.specs.declared.key.Key.{Key}
 use Rattle.curve_keys.specs.Curves.{Keyframes}
-use Rattle.keyframe_model.specs.Models.{PropertyCurve}
+use Rattle.keyframe_model.specs.Models.{Spec, PropertyCurve}
 use Rattle.tree_commit.specs.Edits.{AddElement, AddModel, AddTimeline}
-use Rattle.tree_commit.specs.Scripts.{MainDoes, Edit}
+use Rattle.tree_commit.specs.Scripts.{StepOfMain, EditStep}
 use Rattle.tree_commit.specs.Frames.{DrawnFrame, DrawnRow}
 
 -- ---- words
@@ -29,17 +29,24 @@ letters codes = map lane_of codes
 -- ---- steps of main
 
 -- a timeline that shows 0 at tick 0
-abbrev pub timeline_1 : MainDoes
-timeline_1 = Edit (AddTimeline 1 0)
+abbrev pub timeline_1 : StepOfMain
+timeline_1 = EditStep (AddTimeline 1 0)
 
 -- an element of this opacity, in its place
-abbrev pub element : ℕ → ℕ → MainDoes
-element id opacity = Edit (AddElement id (record { opacity = opacity; transform = [] }))
+abbrev pub element : ℕ → ℕ → StepOfMain
+element id opacity = EditStep (AddElement id (record { opacity = opacity; transform = [] }))
 
--- a model of element 1 on timeline 1, without a given start, which main drops once it has ended
-abbrev pub model : ℕ → ℕ → TimingParts → PropertyCurve → MainDoes
-model id group timing curve =
-    Edit (AddModel (record { id = id; group = group; element = 1; timeline = 1; start = None; timing = timing; policy = Auto; curve = curve }))
+-- a model of an element on timeline 1, without a given start, which main drops once it has ended
+abbrev pub model_of : ℕ → ℕ → ℕ → TimingParts → PropertyCurve → Spec
+model_of element id group timing curve =
+    record { id = id; group = group; element = element; timeline = 1; start = None; timing = timing; policy = Auto; curve = curve }
+
+abbrev pub added : Spec → StepOfMain
+added model = EditStep (AddModel model)
+
+-- such a model of element 1
+abbrev pub model : ℕ → ℕ → TimingParts → PropertyCurve → StepOfMain
+model id group timing curve = added (model_of 1 id group timing curve)
 
 -- so many thousandths of an iteration, forwards, from the start on
 abbrev pub runs : ℕ → ℕ → Fill → TimingParts

@@ -4,7 +4,7 @@ use Rattle.micro_time.specs.declared.fill.Fill.TheVariants.{Neither}
 use Rattle.keyframe_model.specs.Models.{OpacityCurve}
 use Rattle.tree_commit.specs.declared.step.CompositorStep.TheVariants.{Pull, Activate, Tick}
 use Rattle.tree_commit.specs.Edits.{RemoveModel}
-use Rattle.tree_commit.specs.Scripts.{ScriptLists, Edit, Commit}
+use Rattle.tree_commit.specs.Scripts.{ScriptLists, EditStep, CommitStep}
 use Rattle.tree_commit.specs.Runs.{ReportLists}
 use Rattle.worked_scripts.specs.Pieces.{letters, timeline_1, element, model, runs, linear, frame, row}
 
@@ -14,10 +14,10 @@ script = record {
       timeline_1
       ∷ element 1 1000000
       ∷ model 1 1 (runs 1000000 1000 Neither) (OpacityCurve (linear 1000000 0 1000000))
-      ∷ Commit
-      ∷ Edit (RemoveModel 1)
+      ∷ CommitStep
+      ∷ EditStep (RemoveModel 1)
       ∷ element 2 300000
-      ∷ Commit
+      ∷ CommitStep
       ∷ [];
   compositor = Pull ∷ Activate ∷ Tick 5 ∷ [];
   word = letters (codes "MMMMMMMCCC");

@@ -5,7 +5,7 @@ use Rattle.transform_ops.specs.declared.op.TransformOp.{TransformOp}
 use Rattle.transform_ops.specs.declared.op.TransformOp.TheVariants.{Skew}
 use Rattle.tree_commit.specs.declared.step.CompositorStep.TheVariants.{Pull, Activate, Tick}
 use Rattle.tree_commit.specs.Edits.{AddElement}
-use Rattle.tree_commit.specs.Scripts.{ScriptLists, Edit, Commit}
+use Rattle.tree_commit.specs.Scripts.{ScriptLists, EditStep, CommitStep}
 use Rattle.tree_commit.specs.Runs.{ReportLists}
 use Rattle.worked_scripts.specs.Pieces.{letters, element, frame, row}
 
@@ -15,7 +15,7 @@ slanted = Skew (pos 1) (pos 2) ∷ []
 -- main's steps all come first
 abbrev pub script : ScriptLists
 script = record {
-  main = element 1 100000 ∷ Commit ∷ Edit (AddElement 2 (record { opacity = 200000; transform = slanted })) ∷ Commit ∷ [];
+  main = element 1 100000 ∷ CommitStep ∷ EditStep (AddElement 2 (record { opacity = 200000; transform = slanted })) ∷ CommitStep ∷ [];
   compositor = Pull ∷ Activate ∷ Tick 0 ∷ Tick 1000 ∷ [];
   word = letters (codes "MMMMCCCC");
 }

@@ -5,7 +5,7 @@ use Rattle.anim_names.specs.declared.event.AnimEvent.TheVariants.{Started, Finis
 use Rattle.micro_time.specs.declared.fill.Fill.TheVariants.{Neither}
 use Rattle.keyframe_model.specs.Models.{OpacityCurve, TransformCurve}
 use Rattle.tree_commit.specs.declared.step.CompositorStep.TheVariants.{Pull, Activate, Tick}
-use Rattle.tree_commit.specs.Scripts.{ScriptLists, Commit}
+use Rattle.tree_commit.specs.Scripts.{ScriptLists, CommitStep}
 use Rattle.tree_commit.specs.Runs.{ReportLists}
 use Rattle.worked_scripts.specs.declared.TheConstants.{FREED_AT}
 use Rattle.worked_scripts.specs.Pieces.{letters, timeline_1, element, model, runs, linear, moved, frame, row}
@@ -18,7 +18,7 @@ script = record {
       ∷ model 1 1 (runs 1000 1000 Neither) (OpacityCurve (linear 1000 0 1000000))
       ∷ model 2 1 (runs 3000 1000 Neither) (TransformCurve (linear 3000 (moved 0) (moved 3000)))
       ∷ model 3 2 (runs 1000 1000 Neither) (OpacityCurve (linear 1000 500000 0))
-      ∷ Commit
+      ∷ CommitStep
       ∷ [];
   compositor = Pull ∷ Activate ∷ Tick 0 ∷ Tick 1000 ∷ Tick 2000 ∷ Tick 3000 ∷ Tick 4000 ∷ [];
   word = letters (codes "MMMMMMCCCCCCC");

@@ -4,6 +4,7 @@
 //! worked out by hand. Nothing runs here.
 #![tactic(auto)]
 
+pub mod refusals;
 pub mod reports;
 
 /// The opacity of an element a third of the way from nothing to opaque, rounded down.

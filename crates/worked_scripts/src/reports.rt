@@ -1,16 +1,20 @@
 //! One script a function.
-#![tactic(auto, unfolding(tree_commit::specs::Scripts::all_may_come, tree_commit::specs::Edits::edit_refusal, tree_commit::specs::Edits::model_refusal, tree_commit::specs::Edits::noted, tree_commit::specs::Edits::edited, tree_commit::specs::Marks::is_ready, tree_commit::specs::Marks::finish_marks, tree_commit::specs::Marks::start_marks, tree_commit::specs::Marks::marks_of_tick, tree_commit::specs::Marks::marks_of_activation, tree_commit::specs::Frames::animated_value, tree_commit::specs::Frames::frame_at, tree_commit::specs::Runs::after_hearing, tree_commit::specs::Runs::drained, tree_commit::specs::Runs::main_step, tree_commit::specs::Runs::compositor_step, tree_commit::specs::Runs::after, tree_commit::specs::Runs::closing_report, keyframe_model::specs::Models::model_value, curve_keys::specs::Curves::curve_value, easing_fixed::specs::Easings::eased, easing_fixed::specs::Steps::step_value, micro_time::specs::Timings::curve_time, micro_time::specs::Timings::phase, micro_time::specs::Timings::is_done))]
+#![tactic(auto, unfolding(crate::proofs::Opened::whole_run))]
 
 ghost use Rattle.std.specs.Prelude.{◌≡◌};
 ghost use Rattle.tree_commit.specs.Runs.{report_of};
 ghost use Rattle.tree_commit.specs.Scripts.{IsWellFormed};
+ghost use Rattle.worked_scripts.specs.AbortedForGood as aborted_for_good;
 ghost use Rattle.worked_scripts.specs.DroppedModel as dropped_model;
 ghost use Rattle.worked_scripts.specs.FadeIn as fade_in;
+ghost use Rattle.worked_scripts.specs.FillBelow as fill_below;
 ghost use Rattle.worked_scripts.specs.Generated as generated;
 ghost use Rattle.worked_scripts.specs.IdleSteps as idle_steps;
+ghost use Rattle.worked_scripts.specs.InterleavedGroups as interleaved_groups;
 ghost use Rattle.worked_scripts.specs.LateElement as late_element;
 ghost use Rattle.worked_scripts.specs.LostElement as lost_element;
 ghost use Rattle.worked_scripts.specs.NoIterations as no_iterations;
+ghost use Rattle.worked_scripts.specs.RecordedStarts as recorded_starts;
 ghost use Rattle.worked_scripts.specs.ReplacedCommit as replaced_commit;
 ghost use Rattle.worked_scripts.specs.TwoOrders as two_orders;
 ghost use Rattle.worked_scripts.specs.WaitingGroup as waiting_group;
@@ -68,6 +72,30 @@ pub fn two_orders()
     ensures well_formed { IsWellFormed two_orders.script }
     ensures report { report_of two_orders.script two_orders.script.word ≡ two_orders.report }
     ensures other { report_of two_orders.script two_orders.other_word ≡ two_orders.other_report }
+{}
+
+/// Models start group by group, and finish in the order of the commit.
+pub fn interleaved_groups()
+    ensures well_formed { IsWellFormed interleaved_groups.script }
+    ensures report { report_of interleaved_groups.script interleaved_groups.script.word ≡ interleaved_groups.report }
+{}
+
+/// A model that gives no value hides none, and a finished one fills as long as it is in the active commit.
+pub fn fill_below()
+    ensures well_formed { IsWellFormed fill_below.script }
+    ensures report { report_of fill_below.script fill_below.script.word ≡ fill_below.report }
+{}
+
+/// A model that was aborted shows nothing more and never starts again.
+pub fn aborted_for_good()
+    ensures well_formed { IsWellFormed aborted_for_good.script }
+    ensures report { report_of aborted_for_good.script aborted_for_good.script.word ≡ aborted_for_good.report }
+{}
+
+/// The start that is recorded is the given one, or the time of the timeline, which may be negative.
+pub fn recorded_starts()
+    ensures well_formed { IsWellFormed recorded_starts.script }
+    ensures report { report_of recorded_starts.script recorded_starts.script.word ≡ recorded_starts.report }
 {}
 
 /// The smallest script of the generator.

@@ -1,0 +1,11 @@
+//! Why edits are refused.
+#![tactic(auto, unfolding(crate::proofs::Opened::whole_run))]
+
+ghost use Rattle.std.specs.Prelude.{◌≡◌};
+ghost use Rattle.tree_commit.specs.Edits.{new_book};
+ghost use Rattle.worked_scripts.specs.RefusedEdits as refused_edits;
+
+/// One edit after the other, each refused for its first reason or not at all.
+pub fn refused_edits()
+    ensures { refused_edits.refusals new_book refused_edits.steps ≡ refused_edits.reasons }
+{}
