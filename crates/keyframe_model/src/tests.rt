@@ -70,7 +70,8 @@ fn slide(rt: &impl Abort, alloc: Global) -> Result<CurveOf, Fail> {
 
 fn opacity_at(rt: &impl Abort, model: &ModelSpec, local: i64) -> Result<Option<u32>, Fail> {
     assert!(rt; local.unsigned_abs() <= 1 << 52);
-    match model.value(local)? {
+    let value = model.value(local)?;
+    match &value {
         Some(Value::Opacity(opacity)) => Ok(Some(opacity.get())),
         _ => Ok(None),
     }
@@ -79,14 +80,17 @@ fn opacity_at(rt: &impl Abort, model: &ModelSpec, local: i64) -> Result<Option<u
 // How far down the element is, where its transform is one translation.
 fn y_at(rt: &impl Abort, model: &ModelSpec, local: i64) -> Result<Option<i64>, Fail> {
     assert!(rt; local.unsigned_abs() <= 1 << 52);
-    match model.value(local)? {
-        Some(Value::Transform(list)) => {
-            assert_eq!(rt; list.len(), 1);
-            match list.op(0) {
-                TransformOp::Translate { x: 0, y, z: 0 } => Ok(Some(y)),
-                _ => Ok(None),
-            }
-        }
+    let value = model.value(local)?;
+    match &value {
+        Some(Value::Transform(list)) => y_of(rt, list),
+        _ => Ok(None),
+    }
+}
+
+fn y_of(rt: &impl Abort, list: &TransformList) -> Result<Option<i64>, Fail> {
+    assert_eq!(rt; list.len(), 1);
+    match list.op(0) {
+        TransformOp::Translate { x: 0, y, z: 0 } => Ok(Some(y)),
         _ => Ok(None),
     }
 }
