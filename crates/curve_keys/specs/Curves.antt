@@ -66,7 +66,8 @@ duration_of curve = last_time 0 curve.keys
 -- held at the curve's ends.
 abbrev pub bent_time : Easing → ℕ → ℕ → ℕ
 bent_time Linear duration time = time
-bent_time easing duration time = clamp_to duration (floor_div (eased easing (time * ONE / duration) *ℤ pos duration) ONE)
+bent_time easing duration time =
+    clamp_to duration (floor_div (eased easing (time * ONE / duration) *ℤ pos duration) ONE)
 
 -- ---- the value
 

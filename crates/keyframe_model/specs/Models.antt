@@ -64,7 +64,7 @@ model_parts id group element timeline start timing policy curve = record {
   curve = curve;
 }
 
--- what may be a model
+-- what may be a model, beside what its timing and its curve may be
 pub record IsModel (model : Spec) : Type 0 where
   pub duration : model.timing.duration ≡ curve_duration model.curve
   pub start : IfSome model.start (λ start. start ≤ 2 ^ 50)

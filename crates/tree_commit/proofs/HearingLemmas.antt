@@ -1,14 +1,14 @@
 -- What main hears along a run.
-use Rattle.std.proofs.Common.{◌≡◌, List, [], ◌∷◌, ◌++◌, length, drop, map, refl, sym, ap, ◌∙◌, append_assoc}
+use Rattle.std.proofs.Common.{◌≡◌, ℕ, ◌+◌, add-zero, add_assoc, List, [], ◌∷◌, ◌++◌, length, drop, map, refl, sym, ap, ◌∙◌, append_assoc}
 use Rattle.std.specs.Prelude.{flat_map}
 use Rattle.std.proofs.Math.Seq.{drop-append_seam}
 use Rattle.std.proofs.lemmas.Grind.{flat_map-append}
-use Rattle.std.proofs.lemmas.List.{append-nil, map-append}
+use Rattle.std.proofs.lemmas.List.{append-nil, length-append, map-append}
 use Rattle.anim_names.specs.declared.event.AnimEvent.{AnimEvent}
 use Rattle.anim_names.specs.declared.lane.Lane.{Lane}
 use Rattle.anim_names.specs.declared.lane.Lane.TheVariants.{Main, Compositor}
 use Rattle.tree_commit.specs.declared.mark.Mark.{Mark}
-use Rattle.tree_commit.specs.Laws.{GoesOn, HeardOnce, batches, batch_of_step, batch_of_letter}
+use Rattle.tree_commit.specs.Laws.{GoesOn, HeardOnce, CountsAddUp, totals, batches, batch_of_step, batch_of_letter}
 use Rattle.tree_commit.specs.Marks.{event_of}
 use Rattle.tree_commit.specs.Scripts.{StepOfMain, EditStep, CommitStep, DrainStep, ScriptLists}
 use Rattle.tree_commit.specs.Runs.{Lanes, MainLane, beginning, after_letter, after, main_step, main_takes, after_drain, unheard_events, closing_report}
@@ -74,3 +74,39 @@ word_batches lanes (letter ∷ word) h =
 pub heard_once : (script : ScriptLists) (word : List Lane) → HeardOnce script word
 unfolding closing_report AreHeardFirst
 heard_once script word = word_batches (beginning script) word ([], refl)
+
+-- ---- counts
+
+totals-append : (before : ℕ) (xs ys : List (List AnimEvent)) → totals before (xs ++ ys) ≡ totals before xs ++ totals (before + length (all_of xs)) ys
+totals-append before [] ys = ap (λ n. totals n ys) (sym (add-zero before))
+totals-append before (x ∷ xs) ys =
+    let shifted : (before + length x) + length (all_of xs) ≡ before + length (x ++ all_of xs) = rw length-append (add_assoc before (length x) (length (all_of xs))) in
+    ap (λ l. (before + length x) ∷ l) (totals-append (before + length x) xs ys ∙ ap (λ n. totals (before + length x) xs ++ totals n ys) shifted)
+
+takes_counts : (marks : List Mark) (left : List StepOfMain) (lane : MainLane) → (main_takes marks left lane).counts ≡ lane.counts ++ totals (length lane.heard) (batch_of_step left (unheard_events marks lane))
+unfolding after_drain
+takes_counts marks [] lane = sym (append-nil lane.counts)
+takes_counts marks (EditStep change ∷ left) lane = sym (append-nil lane.counts)
+takes_counts marks (CommitStep ∷ left) lane = sym (append-nil lane.counts)
+takes_counts marks (DrainStep ∷ left) lane = ap (λ n. lane.counts ++ n ∷ []) (length-append lane.heard (unheard_events marks lane))
+
+letter_counts : (lanes : Lanes) (letter : Lane) → (after_letter lanes letter).main.counts ≡ lanes.main.counts ++ totals (length lanes.main.heard) (batch_of_letter lanes letter)
+unfolding main_step
+letter_counts lanes Main = takes_counts lanes.compositor.marks lanes.main.left lanes.main
+letter_counts lanes Compositor = sym (append-nil lanes.main.counts)
+
+-- The counts before a word, and then those of its drains and of the closing one, are the counts after it.
+word_counts : (lanes : Lanes) (word : List Lane) → (after_drain (after lanes word).compositor.marks (after lanes word).main).counts ≡ lanes.main.counts ++ totals (length lanes.main.heard) (batches lanes word)
+unfolding after batches after_drain
+word_counts lanes [] = ap (λ n. lanes.main.counts ++ n ∷ []) (length-append lanes.main.heard (unheard_events lanes.compositor.marks lanes.main))
+word_counts lanes (letter ∷ word) =
+    let heard = ap length (letter_batch lanes letter) ∙ length-append lanes.main.heard (all_of (batch_of_letter lanes letter)) in
+    word_counts (after_letter lanes letter) word
+    ∙ ap (λ n. (after_letter lanes letter).main.counts ++ totals n (batches (after_letter lanes letter) word)) heard
+    ∙ ap (λ counts. counts ++ totals (length lanes.main.heard + length (all_of (batch_of_letter lanes letter))) (batches (after_letter lanes letter) word)) (letter_counts lanes letter)
+    ∙ append_assoc lanes.main.counts (totals (length lanes.main.heard) (batch_of_letter lanes letter)) (totals (length lanes.main.heard + length (all_of (batch_of_letter lanes letter))) (batches (after_letter lanes letter) word))
+    ∙ ap (λ counts. lanes.main.counts ++ counts) (sym (totals-append (length lanes.main.heard) (batch_of_letter lanes letter) (batches (after_letter lanes letter) word)))
+
+pub counts_add_up : (script : ScriptLists) (word : List Lane) → CountsAddUp script word
+unfolding closing_report
+counts_add_up script word = word_counts (beginning script) word

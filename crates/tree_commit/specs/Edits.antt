@@ -47,14 +47,15 @@ tree_after tree (SetOpacity id opacity) =
     record tree { elements = with_look id (λ look. record look { opacity = opacity }) tree.elements }
 tree_after tree (SetTransform id transform) =
     record tree { elements = with_look id (λ look. record look { transform = transform }) tree.elements }
-tree_after tree (AddTimeline id origin) = record tree { timelines = tree.timelines ++ record { id = id; origin = origin } ∷ [] }
+tree_after tree (AddTimeline id origin) =
+    record tree { timelines = tree.timelines ++ record { id = id; origin = origin } ∷ [] }
 tree_after tree (AddModel model) = record tree { models = tree.models ++ model ∷ [] }
 tree_after tree (RemoveModel id) = without_model tree id
 
 -- ---- what an edit is checked against
 
--- What all models ever added to a group have: one element, one timeline and one given start, and properties that differ.
--- Beside it stands how many commits there were when the first of them was added.
+-- What all models ever added to a group have: one element, one timeline and one given start, and properties that
+-- differ. Beside it stands how many commits there were when the first of them was added.
 pub record GroupParts : Type 0 where
   pub group : ℕ
   pub element : ℕ
@@ -135,11 +136,14 @@ new_parts commits model = record {
   commits_before = commits;
 }
 
+abbrev pub with_property : Property → GroupParts → GroupParts
+with_property property parts = record parts { properties = parts.properties ++ property ∷ [] }
+
 -- the groups with one more model, the first of its group or a further one
 abbrev pub with_member : ℕ → Spec → List GroupParts → List GroupParts
 with_member commits model [] = new_parts commits model ∷ []
 with_member commits model (parts ∷ others) =
-    if model.group == parts.group then record parts { properties = parts.properties ++ property_of model ∷ [] } ∷ others else
+    if model.group == parts.group then with_property (property_of model) parts ∷ others else
     parts ∷ with_member commits model others
 
 -- the book after an edit that was not refused

@@ -1,5 +1,5 @@
 -- Laws of runs, in the words of the definitions.
-use Rattle.std.specs.Prelude.{◌≡◌, ℕ, IsTrue, List, [], ◌∷◌, ◌++◌, map, flat_map}
+use Rattle.std.specs.Prelude.{◌≡◌, ℕ, ◌+◌, IsTrue, List, [], ◌∷◌, ◌++◌, length, map, flat_map}
 use Rattle.anim_names.specs.declared.event.AnimEvent.{AnimEvent}
 use Rattle.anim_names.specs.declared.lane.Lane.{Lane}
 use Rattle.anim_names.specs.declared.lane.Lane.TheVariants.{Main, Compositor}
@@ -46,6 +46,15 @@ batches lanes (letter ∷ word) = batch_of_letter lanes letter ++ batches (after
 -- What all drains hear, one batch behind the other, is the list of all events.
 abbrev pub HeardOnce : ScriptLists → List Lane → Type 0
 HeardOnce script word = flat_map (λ batch. batch) (batches (beginning script) word) ≡ (report_of script word).events
+
+-- how many events are heard after each batch, where so many were heard before
+abbrev pub totals : ℕ → List (List AnimEvent) → List ℕ
+totals before [] = []
+totals before (batch ∷ batches) = (before + length batch) ∷ totals (before + length batch) batches
+
+-- The report's counts are those of the events heard so far, drain by drain.
+abbrev pub CountsAddUp : ScriptLists → List Lane → Type 0
+CountsAddUp script word = (report_of script word).heard ≡ totals 0 (batches (beginning script) word)
 
 -- ---- a running model is active
 

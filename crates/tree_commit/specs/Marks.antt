@@ -94,8 +94,8 @@ start_of marks id = start_from 0 marks id
 abbrev pub is_group_running : List Mark → ℕ → Bool
 is_group_running marks group = list_any (λ mark. starts_in group mark && not (is_ended marks (model_of mark))) marks
 
--- The group blocks a property of an element: it is running, and one of its models that started, ended or not, is of that
--- property of that element.
+-- The group blocks a property of an element: it is running, and one of its models that started, ended or not, is of
+-- that property of that element.
 abbrev pub blocks : List Mark → ℕ → ℕ → Property → Bool
 blocks marks group element property =
     is_group_running marks group && list_any (λ mark. starts_in group mark && starts_on element property mark) marks
@@ -162,7 +162,8 @@ recorded_start (Some start) time = pos start
 
 abbrev pub start_mark : TreeLists → ℕ → Spec → Mark
 start_mark active tick model =
-    Started model.id model.group model.element (property_of model) tick (recorded_start model.start (time_of active tick model))
+    Started model.id model.group model.element (property_of model) tick
+    (recorded_start model.start (time_of active tick model))
 
 -- A group that is ready starts as a whole: each of its models in the active tree.
 abbrev pub group_marks : TreeLists → Option Committed → List Mark → ℕ → ℕ → List Mark

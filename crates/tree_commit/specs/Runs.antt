@@ -35,8 +35,8 @@ tree_after_hearing tree event = tree_after_verdict tree event (model_with tree (
 
 -- ---- main's lane
 
--- what stands in main's lane: the steps that are left, the tree, the commits in order, the events heard in order, and how
--- many they were after each drain
+-- what stands in main's lane: the steps that are left, the tree, the commits in order, the events heard in order, and
+-- how many they were after each drain
 pub record MainLane : Type 0 where
   pub left : List StepOfMain
   pub tree : TreeLists
@@ -50,7 +50,8 @@ unheard_events marks lane = drop (length lane.heard) (map event_of marks)
 
 -- A commit takes the tree as it is, under the next number.
 abbrev pub after_commit : MainLane → MainLane
-after_commit lane = record lane { commits = lane.commits ++ record { number = length lane.commits + 1; tree = lane.tree } ∷ [] }
+after_commit lane =
+    record lane { commits = lane.commits ++ record { number = length lane.commits + 1; tree = lane.tree } ∷ [] }
 
 -- At a drain main hears all events that it has not heard, in order.
 unfoldable pub after_drain : List Mark → MainLane → MainLane
@@ -78,8 +79,8 @@ main_step marks lane = main_takes marks lane.left lane
 
 -- ---- the compositor's lane
 
--- what stands in the compositor's lane: the steps that are left, the number of the commit pulled last, the pending commit
--- if there is one, the active commit, the marks in order, and the frames in order
+-- what stands in the compositor's lane: the steps that are left, the number of the commit pulled last, the pending
+-- commit if there is one, the active commit, the marks in order, and the frames in order
 pub record CompositorLane : Type 0 where
   pub left : List CompositorStep
   pub pulled : ℕ
@@ -92,11 +93,14 @@ pub record CompositorLane : Type 0 where
 abbrev pub newest_commit : List Committed → Committed
 newest_commit commits = fold (λ older commit. commit) empty_commit commits
 
+-- the lane with this commit pulled, and pending
+abbrev pub with_pending : Committed → CompositorLane → CompositorLane
+with_pending newest lane = record lane { pulled = newest.number; pending = Some newest }
+
 -- A pull takes the newest commit as the pending one, where none is pending and this one was not pulled yet.
 abbrev pub after_pull : Committed → CompositorLane → CompositorLane
 after_pull newest lane =
-    if is_none lane.pending && nat_lt lane.pulled newest.number then record lane { pulled = newest.number; pending = Some newest } else
-    lane
+    if is_none lane.pending && nat_lt lane.pulled newest.number then with_pending newest lane else lane
 
 -- An activation makes the pending commit the active one, where one is pending, and marks what is lost.
 abbrev pub after_activation : Option Committed → CompositorLane → CompositorLane
@@ -138,7 +142,14 @@ pub record Lanes : Type 0 where
 abbrev pub beginning : ScriptLists → Lanes
 beginning script = record {
   main = record { left = script.main; tree = empty_tree; commits = []; heard = []; counts = [] };
-  compositor = record { left = script.compositor; pulled = 0; pending = None; active = empty_commit; marks = []; frames = [] };
+  compositor = record {
+    left = script.compositor;
+    pulled = 0;
+    pending = None;
+    active = empty_commit;
+    marks = [];
+    frames = [];
+  };
 }
 
 -- A letter is the next step of its lane. Of the other lane main reads the marks alone, and the compositor the commits.

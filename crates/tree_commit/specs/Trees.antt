@@ -21,7 +21,8 @@ pub record Clock : Type 0 where
   pub id : ℕ
   pub origin : ℕ
 
--- A tree: its elements, its models and its timelines, each in order of insertion. The element of a model need not be there.
+-- A tree: its elements, its models and its timelines, each in order of insertion. The element of a model need not be
+-- there.
 pub record TreeLists : Type 0 where
   pub elements : List Element
   pub models : List Spec

@@ -2,7 +2,7 @@
 
 ghost use Rattle.std.specs.Prelude.{◌≡◌, List, ◌++◌};
 ghost use Rattle.anim_names.specs.declared.lane.Lane.{Lane};
-ghost use Rattle.tree_commit.specs.Laws.{CommitNumbersNeverFall, HeardOnce, MarksOnlyGrow, RunningIsActive};
+ghost use Rattle.tree_commit.specs.Laws.{CommitNumbersNeverFall, CountsAddUp, HeardOnce, MarksOnlyGrow, RunningIsActive};
 ghost use Rattle.tree_commit.specs.Runs.{Lanes, after, beginning, report_of};
 ghost use Rattle.tree_commit.specs.Scripts.{ScriptLists};
 
@@ -26,7 +26,12 @@ pub fn each_event_is_heard_once()
     ensures { (script : ScriptLists) (word : List Lane) → HeardOnce script word }
 {}
 
-/// A model that has start_of and not ended is in the active commit, so it is enough to look at the models there.
+/// The counts of a report add up: each is how many events main had heard by that drain.
+pub fn heard_counts_add_up()
+    ensures { (script : ScriptLists) (word : List Lane) → CountsAddUp script word }
+{}
+
+/// A model that is started and not ended is in the active commit, so it is enough to look at the models there.
 pub fn running_models_are_active()
     ensures { (script : ScriptLists) (word : List Lane) → RunningIsActive (after (beginning script) word) }
 {}

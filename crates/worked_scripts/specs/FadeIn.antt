@@ -11,7 +11,12 @@ use Rattle.worked_scripts.specs.Pieces.{letters, timeline_1, element, model, run
 
 abbrev pub script : ScriptLists
 script = record {
-  main = timeline_1 ∷ element 1 1000000 ∷ model 1 1 (runs 1000000 1000 Neither) (OpacityCurve (linear 1000000 0 1000000)) ∷ CommitStep ∷ [];
+  main =
+      timeline_1
+      ∷ element 1 1000000
+      ∷ model 1 1 (runs 1000000 1000 Neither) (OpacityCurve (linear 1000000 0 1000000))
+      ∷ CommitStep
+      ∷ [];
   compositor = Pull ∷ Activate ∷ Tick 16000 ∷ Tick 349333 ∷ Tick 516000 ∷ [];
   word = letters (codes "MMMMCCCCC");
 }

@@ -1,10 +1,13 @@
 -- The smallest script of the generator: an element fades and moves in steps, and the ticks begin before any commit.
-use Rattle.std.specs.Prelude.{pos, [], ◌∷◌, codes}
+use Rattle.std.specs.Prelude.{pos, List, [], ◌∷◌, codes}
 use Rattle.anim_names.specs.declared.event.AnimEvent.TheVariants.{Started}
 use Rattle.micro_time.specs.declared.direction.Direction.TheVariants.{Reverse}
 use Rattle.micro_time.specs.declared.fill.Fill.TheVariants.{Both}
 use Rattle.easing_fixed.specs.declared.easing.Easing.TheVariants.{Linear, Steps}
 use Rattle.easing_fixed.specs.declared.position.StepPosition.TheVariants.{JumpEnd}
+use Rattle.easing_fixed.specs.Steps.{step_parts}
+use Rattle.transform_ops.specs.declared.op.TransformOp.{TransformOp}
+use Rattle.curve_keys.specs.Curves.{Keyframes}
 use Rattle.keyframe_model.specs.Models.{OpacityCurve, TransformCurve}
 use Rattle.tree_commit.specs.declared.step.CompositorStep.TheVariants.{Pull, Activate, Tick}
 use Rattle.tree_commit.specs.Edits.{AddElement}
@@ -13,14 +16,20 @@ use Rattle.tree_commit.specs.Runs.{ReportLists}
 use Rattle.worked_scripts.specs.declared.TheConstants.{FADED_BACK}
 use Rattle.worked_scripts.specs.Pieces.{letters, timeline_1, model, runs, key, linear, moved, frame, row}
 
+-- in four steps from one place to another
+abbrev pub stepping : Keyframes (List TransformOp)
+stepping = record {
+  keys = record (key 0 (moved 0)) { easing = Steps (step_parts 4 JumpEnd) } ∷ key 200000 (moved 1000) ∷ [];
+  easing = Linear;
+}
+
 abbrev pub script : ScriptLists
 script = record {
   main =
       timeline_1
       ∷ EditStep (AddElement 1 (record { opacity = 1000000; transform = moved 0 }))
       ∷ model 1 1 (record (runs 101000 2000 Both) { direction = Reverse }) (OpacityCurve (linear 101000 1000000 0))
-      ∷ model 2 1 (runs 200000 1000 Both)
-      (TransformCurve (record { keys = record (key 0 (moved 0)) { easing = Steps (record { count = 4; position = JumpEnd }) } ∷ key 200000 (moved 1000) ∷ []; easing = Linear }))
+      ∷ model 2 1 (runs 200000 1000 Both) (TransformCurve stepping)
       ∷ CommitStep
       ∷ DrainStep
       ∷ CommitStep

@@ -1,5 +1,4 @@
--- A pull while a commit is pending takes nothing, a second activation does nothing, a pull of what was pulled takes
--- nothing, and drains without news hear nothing.
+-- A pull while a commit is pending takes nothing, a second activation does nothing, and drains without news hear nothing.
 use Rattle.std.specs.Prelude.{[], ◌∷◌, codes}
 use Rattle.tree_commit.specs.declared.step.CompositorStep.TheVariants.{Pull, Activate, Tick}
 use Rattle.tree_commit.specs.Scripts.{ScriptLists, CommitStep, DrainStep}

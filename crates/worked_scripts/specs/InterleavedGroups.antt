@@ -1,5 +1,5 @@
--- The models of one group stand on both sides of a model of another. Models start group by group, and finish in the order
--- of the commit.
+-- The models of one group stand on both sides of a model of another. Models start group by group, and finish in the
+-- order of the commit.
 use Rattle.std.specs.Prelude.{pos, [], ◌∷◌, codes}
 use Rattle.anim_names.specs.declared.event.AnimEvent.TheVariants.{Started, Finished}
 use Rattle.micro_time.specs.declared.fill.Fill.TheVariants.{Neither}

@@ -1,5 +1,6 @@
 pub mod AbortedForGood
 pub mod DroppedModel
+pub mod EarlyPull
 pub mod FadeIn
 pub mod FillBelow
 pub mod Generated
@@ -12,5 +13,5 @@ pub mod Pieces
 pub mod RecordedStarts
 pub mod RefusedEdits
 pub mod ReplacedCommit
-pub mod TwoOrders
+pub mod SeveralOrders
 pub mod WaitingGroup

@@ -10,7 +10,12 @@ use Rattle.worked_scripts.specs.Pieces.{letters, timeline_1, element, model, run
 
 abbrev pub script : ScriptLists
 script = record {
-  main = timeline_1 ∷ element 1 1000000 ∷ model 1 1 (runs 1000000 0 Forwards) (OpacityCurve (linear 1000000 0 1000000)) ∷ CommitStep ∷ [];
+  main =
+      timeline_1
+      ∷ element 1 1000000
+      ∷ model 1 1 (runs 1000000 0 Forwards) (OpacityCurve (linear 1000000 0 1000000))
+      ∷ CommitStep
+      ∷ [];
   compositor = Pull ∷ Activate ∷ Tick 0 ∷ Tick 0 ∷ [];
   word = letters (codes "MMMMCCCC");
 }

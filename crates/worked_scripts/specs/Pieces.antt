@@ -6,7 +6,7 @@ use Rattle.anim_delegate.specs.declared.policy.Policy.TheVariants.{Auto}
 use Rattle.micro_time.specs.declared.direction.Direction.TheVariants.{Normal}
 use Rattle.micro_time.specs.declared.fill.Fill.{Fill}
 use Rattle.micro_time.specs.declared.iterations.Iterations.TheVariants.{Finite}
-use Rattle.micro_time.specs.Timings.{TimingParts}
+use Rattle.micro_time.specs.Timings.{TimingParts, timing_parts}
 use Rattle.easing_fixed.specs.declared.easing.Easing.TheVariants.{Linear}
 use Rattle.transform_ops.specs.declared.op.TransformOp.{TransformOp}
 use Rattle.transform_ops.specs.declared.op.TransformOp.TheVariants.{Translate}
@@ -38,8 +38,16 @@ element id opacity = EditStep (AddElement id (record { opacity = opacity; transf
 
 -- a model of an element on timeline 1, without a given start, which main drops once it has ended
 abbrev pub model_of : ℕ → ℕ → ℕ → TimingParts → PropertyCurve → Spec
-model_of element id group timing curve =
-    record { id = id; group = group; element = element; timeline = 1; start = None; timing = timing; policy = Auto; curve = curve }
+model_of element id group timing curve = record {
+  id = id;
+  group = group;
+  element = element;
+  timeline = 1;
+  start = None;
+  timing = timing;
+  policy = Auto;
+  curve = curve;
+}
 
 abbrev pub added : Spec → StepOfMain
 added model = EditStep (AddModel model)
@@ -51,7 +59,7 @@ model id group timing curve = added (model_of 1 id group timing curve)
 -- so many thousandths of an iteration, forwards, from the start on
 abbrev pub runs : ℕ → ℕ → Fill → TimingParts
 runs duration iterations fill =
-    record { duration = duration; offset = pos 0; iterations = Finite iterations; iteration_start = 0; direction = Normal; fill = fill; rate = pos 1000 }
+    timing_parts duration (pos 0) (Finite iterations) 0 Normal fill (pos 1000)
 
 abbrev pub key : {V : Type 0} → ℕ → V → Key V
 key time value = record { time = time; easing = Linear; value = value }

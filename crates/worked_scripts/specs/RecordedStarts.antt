@@ -1,14 +1,17 @@
--- A timeline that shows 0 at tick 1000, and a tick at 500. A model without a given start counts from -500. Two with a given
--- start are before their iterations: the one that fills backwards shows its first value, the other nothing.
+-- A timeline that shows 0 at tick 1000, and a tick at 500. A model without a given start counts from -500. Two with a
+-- given start are before their iterations: the one that fills backwards shows its first value, the other nothing.
 use Rattle.std.specs.Prelude.{pos, neg_ℤ, [], ◌∷◌, Some, codes}
 use Rattle.anim_names.specs.declared.event.AnimEvent.TheVariants.{Started}
 use Rattle.micro_time.specs.declared.fill.Fill.TheVariants.{Neither, Forwards, Backwards}
-use Rattle.keyframe_model.specs.Models.{OpacityCurve}
+use Rattle.keyframe_model.specs.Models.{PropertyCurve, OpacityCurve}
 use Rattle.tree_commit.specs.declared.step.CompositorStep.TheVariants.{Pull, Activate, Tick}
 use Rattle.tree_commit.specs.Edits.{AddTimeline}
 use Rattle.tree_commit.specs.Scripts.{ScriptLists, EditStep, CommitStep}
 use Rattle.tree_commit.specs.Runs.{ReportLists}
 use Rattle.worked_scripts.specs.Pieces.{letters, element, model, model_of, added, runs, linear, frame, row}
+
+abbrev pub fading : PropertyCurve
+fading = OpacityCurve (linear 1000 300000 0)
 
 abbrev pub script : ScriptLists
 script = record {
@@ -18,8 +21,8 @@ script = record {
       ∷ element 2 1000000
       ∷ element 3 1000000
       ∷ model 1 1 (runs 1000 1000 Neither) (OpacityCurve (linear 1000 200000 0))
-      ∷ added (record (model_of 2 2 2 (runs 1000 1000 Backwards) (OpacityCurve (linear 1000 300000 0))) { start = Some 5000 })
-      ∷ added (record (model_of 3 3 3 (runs 1000 1000 Forwards) (OpacityCurve (linear 1000 300000 0))) { start = Some 5000 })
+      ∷ added (record (model_of 2 2 2 (runs 1000 1000 Backwards) fading) { start = Some 5000 })
+      ∷ added (record (model_of 3 3 3 (runs 1000 1000 Forwards) fading) { start = Some 5000 })
       ∷ CommitStep
       ∷ [];
   compositor = Pull ∷ Activate ∷ Tick 500 ∷ [];

@@ -6,6 +6,7 @@ ghost use Rattle.tree_commit.specs.Runs.{report_of};
 ghost use Rattle.tree_commit.specs.Scripts.{IsWellFormed};
 ghost use Rattle.worked_scripts.specs.AbortedForGood as aborted_for_good;
 ghost use Rattle.worked_scripts.specs.DroppedModel as dropped_model;
+ghost use Rattle.worked_scripts.specs.EarlyPull as early_pull;
 ghost use Rattle.worked_scripts.specs.FadeIn as fade_in;
 ghost use Rattle.worked_scripts.specs.FillBelow as fill_below;
 ghost use Rattle.worked_scripts.specs.Generated as generated;
@@ -16,7 +17,7 @@ ghost use Rattle.worked_scripts.specs.LostElement as lost_element;
 ghost use Rattle.worked_scripts.specs.NoIterations as no_iterations;
 ghost use Rattle.worked_scripts.specs.RecordedStarts as recorded_starts;
 ghost use Rattle.worked_scripts.specs.ReplacedCommit as replaced_commit;
-ghost use Rattle.worked_scripts.specs.TwoOrders as two_orders;
+ghost use Rattle.worked_scripts.specs.SeveralOrders as several_orders;
 ghost use Rattle.worked_scripts.specs.WaitingGroup as waiting_group;
 
 /// An element fades in.
@@ -67,11 +68,19 @@ pub fn idle_steps()
     ensures report { report_of idle_steps.script idle_steps.script.word ≡ idle_steps.report }
 {}
 
-/// One script in two orders of its lanes.
-pub fn two_orders()
-    ensures well_formed { IsWellFormed two_orders.script }
-    ensures report { report_of two_orders.script two_orders.script.word ≡ two_orders.report }
-    ensures other { report_of two_orders.script two_orders.other_word ≡ two_orders.other_report }
+/// A pull before any commit takes nothing.
+pub fn early_pull()
+    ensures well_formed { IsWellFormed early_pull.script }
+    ensures report { report_of early_pull.script early_pull.script.word ≡ early_pull.report }
+{}
+
+/// One script in several orders of its lanes.
+pub fn several_orders()
+    ensures well_formed { IsWellFormed several_orders.script }
+    ensures report { report_of several_orders.script several_orders.script.word ≡ several_orders.report }
+    ensures first { report_of several_orders.script several_orders.first_word ≡ several_orders.first_report several_orders.first_word }
+    ensures other_first { report_of several_orders.script several_orders.other_first_word ≡ several_orders.first_report several_orders.other_first_word }
+    ensures early { report_of several_orders.script several_orders.early_word ≡ several_orders.early_report }
 {}
 
 /// Models start group by group, and finish in the order of the commit.

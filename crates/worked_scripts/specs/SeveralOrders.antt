@@ -1,4 +1,4 @@
--- One script in two orders of its lanes, which show different commits.
+-- One script in several orders of its lanes, which show different commits.
 use Rattle.std.specs.Prelude.{pos, List, [], ◌∷◌, codes}
 use Rattle.anim_names.specs.declared.lane.Lane.{Lane}
 use Rattle.transform_ops.specs.declared.op.TransformOp.{TransformOp}
@@ -15,7 +15,12 @@ slanted = Skew (pos 1) (pos 2) ∷ []
 -- main's steps all come first
 abbrev pub script : ScriptLists
 script = record {
-  main = element 1 100000 ∷ CommitStep ∷ EditStep (AddElement 2 (record { opacity = 200000; transform = slanted })) ∷ CommitStep ∷ [];
+  main =
+      element 1 100000
+      ∷ CommitStep
+      ∷ EditStep (AddElement 2 (record { opacity = 200000; transform = slanted }))
+      ∷ CommitStep
+      ∷ [];
   compositor = Pull ∷ Activate ∷ Tick 0 ∷ Tick 1000 ∷ [];
   word = letters (codes "MMMMCCCC");
 }
@@ -31,14 +36,24 @@ report = record {
   heard = 0 ∷ [];
 }
 
--- the compositor pulls and activates between the two commits
-abbrev pub other_word : List Lane
-other_word = letters (codes "MMCCMMCC")
+-- The compositor pulls between the two commits, and activates before or after the second: both show the first.
+abbrev pub first_word : List Lane
+first_word = letters (codes "MMCCMMCC")
 
-abbrev pub other_report : ReportLists
-other_report = record {
-  word = other_word;
+abbrev pub other_first_word : List Lane
+other_first_word = letters (codes "MMCMMCCC")
+
+abbrev pub first_report : List Lane → ReportLists
+first_report word = record {
+  word = word;
   frames = frame 0 1 (row 1 100000 [] ∷ []) ∷ frame 1000 1 (row 1 100000 [] ∷ []) ∷ [];
   events = [];
   heard = 0 ∷ [];
 }
+
+-- the compositor pulls too early, and finds nothing
+abbrev pub early_word : List Lane
+early_word = letters (codes "CMMMMCCC")
+
+abbrev pub early_report : ReportLists
+early_report = record { word = early_word; frames = frame 0 0 [] ∷ frame 1000 0 [] ∷ []; events = []; heard = 0 ∷ [] }
