@@ -1,6 +1,6 @@
 -- Curves: what may be the keys of one, and which value it has at a time. How two values blend is a parameter, since
 -- there are curves of opacities and of transforms.
-use Rattle.std.specs.Prelude.{ℕ, ◌-◌, ◌*◌, ◌/◌, ◌==◌, nat_lt, Bool, true, false, not, ◌&&◌, if◌then◌else◌, ℤ, pos, ◌*ℤ◌, List, [], ◌∷◌, length, Option, Some, None}
+use Rattle.std.specs.Prelude.{◌≡◌, ◌≤◌, ◌^◌, All, ℕ, ◌-◌, ◌*◌, ◌/◌, ◌==◌, nat_lt, Bool, true, false, not, ◌&&◌, if◌then◌else◌, ℤ, pos, ◌*ℤ◌, List, [], ◌∷◌, length, Option, Some, None}
 use Rattle.easing_fixed.specs.declared.TheConstants.{ONE}
 use Rattle.easing_fixed.specs.declared.easing.Easing.{Easing}
 use Rattle.easing_fixed.specs.declared.easing.Easing.TheVariants.{Linear}
@@ -16,6 +16,13 @@ use Rattle.curve_keys.specs.declared.key.Key.{Key}
 pub record Keyframes (V : Type 0) : Type 0 where
   pub keys : List (Key V)
   pub easing : Easing
+
+abbrev pub keyframes : {V : Type 0} → List (Key V) → Easing → Keyframes V
+keyframes keys easing = record { keys = keys; easing = easing }
+
+-- the longest duration of a curve: some 19 hours
+abbrev pub longest : ℕ
+longest = 2 ^ 36
 
 -- each key's time is greater than the one before
 abbrev pub is_rising_from : {V : Type 0} → ℕ → List (Key V) → Bool
@@ -38,6 +45,11 @@ curve_refusal keys =
     if not (is_rising keys) then Some TimesNotRising else
     if not (begins_at_zero keys) then Some FirstNotZero else
     None
+
+-- what may be the keys of a curve
+pub record IsCurve {V : Type 0} (keys : List (Key V)) : Type 0 where
+  pub taken : curve_refusal keys ≡ None
+  pub short : All (λ key. key.time ≤ longest) keys
 
 -- ---- the time
 

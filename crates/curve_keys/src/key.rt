@@ -1,4 +1,8 @@
-use easing_fixed::Easing;
+ghost use Rattle.std.specs.Prelude.{◌≡◌, ◌≤◌, ◌<◌, ◌^◌, false, IfOk, IsOk};
+
+use easing_fixed::{Easing, ONE};
+use std::alloc::AllocError;
+use value_blend::Blend;
 
 /// A value at a time of a curve.
 #[derive(Debug, Drop)]
@@ -8,4 +12,37 @@ pub struct Key<V> {
     /// Bends the progress from this key to the next. The last key's is kept and never used.
     pub easing: Easing,
     pub value: V,
+}
+
+impl<V> Key<V> {
+    ghost use Rattle.curve_keys.specs.Curves.{progress_between};
+
+    // How far a time between this key and the next has come, in units of which ONE is the whole way.
+    pub(crate) fn progress_to(&self, next: &Key<V>, time: u64) -> u32
+        requires begun { self.now.time ≤ time }
+        requires not_over { time < next.now.time }
+        requires short { next.now.time ≤ 2 ^ 36 }
+        ensures value { result ≡ progress_between self.now next.now time }
+        ensures within { result ≤ ONE }
+    {
+        ((time - self.time) * u64::from(ONE) / (next.time - self.time)) as u32
+    }
+}
+
+impl<V: Blend> Key<V> {
+    ghost use Rattle.easing_fixed.specs.Easings.{eased};
+    ghost use Rattle.curve_keys.specs.Curves.{progress_between};
+
+    // The value at a time between this key and the next.
+    pub(crate) fn value_before(&self, next: &Key<V>, time: u64) -> Result<V, AllocError>
+        requires begun { self.now.time ≤ time }
+        requires not_over { time < next.now.time }
+        requires short { next.now.time ≤ 2 ^ 36 }
+        ensures value { IfOk result (λ value. value
+            ≡ V.blended self.now.value next.now.value (eased self.now.easing (progress_between self.now next.now time))) }
+        ensures without_memory { V.TAKES_MEMORY ≡ false → IsOk result }
+    {
+        let progress = self.easing.value(self.progress_to(next, time));
+        V::blend(&self.value, &next.value, progress)
+    }
 }

@@ -4,10 +4,12 @@
 //! next key. Two values are blended as their type says.
 #![tactic(auto)]
 
+pub mod curve;
 pub mod fault;
 pub mod key;
 pub mod worked;
 
+pub use curve::Curve;
 pub use fault::CurveFault;
 pub use key::Key;
 

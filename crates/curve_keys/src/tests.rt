@@ -1,9 +1,127 @@
 use super::*;
+use easing_fixed::{Easing, StepPosition};
+use std::process::Abort;
+use std::test::Fail;
+use value_blend::Opacity;
 
 fn is_shared<T: Send + Sync>() {}
 
+fn key(time: u64, easing: Easing, millionths: i64) -> Result<Key<Opacity>, Fail> {
+    let value = Opacity::new(millionths).ok_or("no opacity")?;
+    Ok(Key {
+        time,
+        easing,
+        value,
+    })
+}
+
+fn curve(
+    rt: &impl Abort,
+    keys: Vec<Key<Opacity>>,
+    easing: Easing,
+) -> Result<Curve<Opacity>, CurveFault> {
+    assert!(rt; keys.iter().all(|key| key.time <= 1 << 36));
+    Curve::new(keys, easing)
+}
+
+fn expect_rows(rt: &impl Abort, curve: &Curve<Opacity>, rows: &[(u64, u32)]) -> Result<(), Fail> {
+    for (time, want) in rows {
+        assert!(rt; *time <= curve.duration());
+        assert_eq!(rt; curve.value_at(*time)?.get(), *want, "at {time}");
+    }
+    Ok(())
+}
+
 #[test]
 fn types_are_shared_between_threads() {
-    is_shared::<Key<u32>>();
+    is_shared::<Key<Opacity>>();
+    is_shared::<Curve<Opacity>>();
     is_shared::<CurveFault>();
+}
+
+#[test]
+fn values_lie_between_the_keys(rt: HostRuntime) -> Result<(), Fail> {
+    let linear = Easing::Linear;
+    let keys = vec![in rt.alloc();
+        key(0, linear, 0)?,
+        key(400_000, linear, 1_000_000)?,
+        key(1_000_000, linear, 500_000)?,
+    ]?;
+    let curve = curve(&rt, keys, linear)?;
+    assert_eq!(rt; curve.duration(), 1_000_000);
+    assert_eq!(rt; curve.key_count(), 3);
+    assert_eq!(rt; curve.key(1).time, 400_000);
+    assert_eq!(rt; *curve.easing(), linear);
+    let rows = [
+        (0, 0),
+        (200_000, 500_000),
+        (400_000, 1_000_000),
+        (700_000, 750_000),
+        (1_000_000, 500_000),
+    ];
+    expect_rows(&rt, &curve, &rows)
+}
+
+#[test]
+fn the_first_value_is_not_eased(rt: HostRuntime) -> Result<(), Fail> {
+    let jumps = Easing::steps(4, StepPosition::JumpStart)?;
+    let keys = vec![in rt.alloc(); key(0, jumps, 0)?, key(1000, Easing::Linear, 1_000_000)?]?;
+    let curve = curve(&rt, keys, Easing::Linear)?;
+    expect_rows(
+        &rt,
+        &curve,
+        &[(0, 0), (1, 250_000), (999, 1_000_000), (1000, 1_000_000)],
+    )
+}
+
+#[test]
+fn the_curve_bends_its_own_time(rt: HostRuntime) -> Result<(), Fail> {
+    let linear = Easing::Linear;
+    let half = Easing::steps(2, StepPosition::JumpEnd)?;
+    let keys = vec![in rt.alloc(); key(0, linear, 0)?, key(1000, linear, 1_000_000)?]?;
+    let stepped = curve(&rt, keys, half)?;
+    expect_rows(
+        &rt,
+        &stepped,
+        &[
+            (0, 0),
+            (499, 0),
+            (500, 500_000),
+            (999, 500_000),
+            (1000, 1_000_000),
+        ],
+    )?;
+    // Half way this cubic is far below 0, and the time is held at the beginning.
+    let back = Easing::cubic(0, -10_000_000, 1_000_000, 0)?;
+    let keys = vec![in rt.alloc(); key(0, linear, 0)?, key(1_048_576, linear, 1_000_000)?]?;
+    let held = curve(&rt, keys, back)?;
+    expect_rows(&rt, &held, &[(524_288, 0), (1_048_576, 1_000_000)])
+}
+
+#[test]
+fn keys_are_refused_in_order(rt: HostRuntime) -> Result<(), Fail> {
+    let linear = Easing::Linear;
+    let one = vec![in rt.alloc(); key(5, linear, 0)?]?;
+    assert_eq!(rt; curve(&rt, one, linear).err(), Some(CurveFault::FewKeys));
+    let equal = vec![in rt.alloc(); key(5, linear, 0)?, key(5, linear, 1)?]?;
+    assert_eq!(rt;
+        curve(&rt, equal, linear).err(),
+        Some(CurveFault::TimesNotRising)
+    );
+    let late = vec![in rt.alloc(); key(5, linear, 0)?, key(6, linear, 1)?]?;
+    assert_eq!(rt;
+        curve(&rt, late, linear).err(),
+        Some(CurveFault::FirstNotZero)
+    );
+    let mut keys = Vec::new(rt.alloc());
+    for time in 0..16 {
+        keys.push(key(time, linear, 0)?)?;
+    }
+    assert_eq!(rt; curve(&rt, keys, linear)?.key_count(), 16);
+    let mut keys = Vec::new(rt.alloc());
+    for _ in 0..17 {
+        keys.push(key(5, linear, 0)?)?;
+    }
+    assert_eq!(rt; curve(&rt, keys, linear).err(), Some(CurveFault::ManyKeys));
+    Ok(())
 }

@@ -52,6 +52,18 @@ pub record Spec : Type 0 where
   pub policy : Policy
   pub curve : PropertyCurve
 
+abbrev pub model_parts : ℕ → ℕ → ℕ → ℕ → Option ℕ → TimingParts → Policy → PropertyCurve → Spec
+model_parts id group element timeline start timing policy curve = record {
+  id = id;
+  group = group;
+  element = element;
+  timeline = timeline;
+  start = start;
+  timing = timing;
+  policy = policy;
+  curve = curve;
+}
+
 -- what may be a model, beside what its timing and its curve may be
 pub record IsModel (model : Spec) : Type 0 where
   pub duration : model.timing.duration ≡ curve_duration model.curve

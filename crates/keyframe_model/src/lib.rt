@@ -4,4 +4,12 @@
 //! the curve, and it is done once its iterations are over.
 #![tactic(auto)]
 
+pub mod curve;
+pub mod model;
 pub mod worked;
+
+pub use curve::{CurveOf, Value};
+pub use model::ModelSpec;
+
+#[cfg(test)]
+mod tests;

@@ -1,2 +1,4 @@
+pub mod ListLemmas
 pub mod Lists
+pub mod OperationLemmas
 pub mod Operations

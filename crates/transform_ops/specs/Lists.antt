@@ -1,14 +1,23 @@
 -- Lists of operations: their blend, place by place from the front, and when two lists move alike.
-use Rattle.std.specs.Prelude.{◌≡◌, ℕ, ◌+◌, ◌/◌, ◌≤◌, if◌then◌else◌, ℤ, pos, int_lt, List, [], ◌∷◌, map, length}
-use Rattle.std.specs.List.{AllByRecursion}
+use Rattle.std.specs.Prelude.{◌≡◌, ℕ, ◌+◌, ◌/◌, ◌≤◌, nat_lt, not, if◌then◌else◌, ℤ, pos, int_lt, List, [], ◌∷◌, map, length, Option, Some, None}
+use Rattle.std.specs.List.{AllByRecursion, list_all}
 use Rattle.value_blend.specs.declared.TheConstants.{ONE}
+use Rattle.transform_ops.specs.declared.fault.ListFault.{ListFault}
+use Rattle.transform_ops.specs.declared.fault.ListFault.TheVariants.{TooMany, OutOfRange}
 use Rattle.transform_ops.specs.declared.op.TransformOp.{TransformOp}
-use Rattle.transform_ops.specs.Operations.{matches, neutral_of, blend_operations, IsNeutral, IsOperation}
+use Rattle.transform_ops.specs.Operations.{matches, neutral_of, blend_operations, IsNeutral, IsOperation, is_operation}
 
 -- what may be the list of a transform
 pub record IsTransform (ops : List TransformOp) : Type 0 where
   pub short : length ops ≤ 8
   pub within : AllByRecursion IsOperation ops
+
+-- why the operations make no list
+abbrev pub list_refusal : List TransformOp → Option ListFault
+list_refusal ops =
+    if nat_lt 8 (length ops) then Some TooMany else
+    if not (list_all is_operation ops) then Some OutOfRange else
+    None
 
 -- how many places from the front hold operations that match
 abbrev pub match_len : List TransformOp → List TransformOp → ℕ

@@ -1,7 +1,7 @@
 -- Single operations of a transform: which two can be blended, what does nothing, and the blend of two.
 use Rattle.std.specs.Prelude.{◌≡◌, Bool, true, false, ◌&&◌, ℤ, pos}
 use Rattle.std.specs.Ordering.{int_eq}
-use Rattle.value_blend.specs.Blends.{blend_number, IsNumber}
+use Rattle.value_blend.specs.Blends.{blend_number, IsNumber, is_number}
 use Rattle.transform_ops.specs.declared.op.TransformOp.{TransformOp}
 use Rattle.transform_ops.specs.declared.op.TransformOp.TheVariants.{Translate, Scale, Rotate, Skew}
 
@@ -11,6 +11,13 @@ IsOperation (Translate x y z) = IsNumber x × IsNumber y × IsNumber z
 IsOperation (Scale x y z) = IsNumber x × IsNumber y × IsNumber z
 IsOperation (Rotate x y z angle) = IsNumber x × IsNumber y × IsNumber z × IsNumber angle
 IsOperation (Skew x y) = IsNumber x × IsNumber y
+
+-- the test of such an operation
+abbrev pub is_operation : TransformOp → Bool
+is_operation (Translate x y z) = is_number x && is_number y && is_number z
+is_operation (Scale x y z) = is_number x && is_number y && is_number z
+is_operation (Rotate x y z angle) = is_number x && is_number y && is_number z && is_number angle
+is_operation (Skew x y) = is_number x && is_number y
 
 -- Two operations match where they are of one kind and, for a rotate, turn about one axis.
 abbrev pub matches : TransformOp → TransformOp → Bool

@@ -5,9 +5,13 @@
 #![tactic(auto)]
 
 pub mod ends;
+pub mod fault;
+pub mod list;
 pub mod op;
 pub mod worked;
 
+pub use fault::ListFault;
+pub use list::TransformList;
 pub use op::TransformOp;
 
 #[cfg(test)]

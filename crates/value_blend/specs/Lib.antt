@@ -1,2 +1,3 @@
 pub mod Blends
+pub mod BlendLemmas
 pub mod Fixed

@@ -5,8 +5,18 @@
 //! goes on as far as the range of the value allows.
 #![tactic(auto)]
 
+pub mod blend;
 pub mod ends;
+pub mod number;
+pub mod opacity;
 pub mod worked;
+
+pub use blend::Blend;
+pub use number::blend_number;
+pub use opacity::Opacity;
 
 /// The whole way from one value to the next, in the unit of a progress: 2^20.
 pub const ONE: u32 = 1 << 20;
+
+#[cfg(test)]
+mod tests;

@@ -1,10 +1,10 @@
--- Where a blend stands at the beginning and at the end of the way.
+-- Where a blend stands at the beginning and at the end of the way, and that it stays in range.
 use Rattle.std.proofs.Common.{◌≡◌, ℕ, suc, ◌+◌, ◌*◌, ℤ, pos, negsuc, ◌-ℤ◌, ◌*ℤ◌, refl, ap, ◌∙◌, arith}
 use Rattle.std.proofs.Math.IntN.{+ℤ_idr, +ℤ_comm, -ℤ-+ℤ_cancel}
 use Rattle.std.proofs.lemmas.Bool.Decides.{nat_tests}
 use Rattle.value_blend.specs.declared.TheConstants.{ONE}
 use Rattle.value_blend.specs.Fixed.{floor_div, clamp_to, clamp_size}
-use Rattle.value_blend.specs.Blends.{part_way, IsNumber, IsOpacity, largest_number, full_opacity}
+use Rattle.value_blend.specs.Blends.{part_way, IsNumber, IsOpacity, largest_number, full_opacity, blend_number, blend_opacity}
 
 floor_div-none : (d : ℤ) → floor_div (d *ℤ pos 0) ONE ≡ pos 0
 floor_div-none (pos a) = ap pos (omega arith)
@@ -30,3 +30,22 @@ clamp_size-within (negsuc a) h = grind (arith, nat_tests)
 
 pub clamp_to-within : (n : ℕ) → IsOpacity n → clamp_to full_opacity (pos n) ≡ n
 clamp_to-within n h = omega arith
+
+pub IsNumber-clamp_size : (z : ℤ) → IsNumber (clamp_size largest_number z)
+IsNumber-clamp_size (pos a) = grind (arith, nat_tests)
+IsNumber-clamp_size (negsuc a) = grind (arith, nat_tests)
+
+pub IsNumber-blend_number : (from to progress : ℤ) → IsNumber (blend_number from to progress)
+IsNumber-blend_number from to progress = IsNumber-clamp_size (part_way from to progress)
+
+pub blend_number-begin : (from to : ℤ) → IsNumber from → blend_number from to (pos 0) ≡ from
+blend_number-begin from to f = rw (part_way-begin from to) (clamp_size-within from f)
+
+pub blend_number-end : (from to : ℤ) → IsNumber to → blend_number from to (pos ONE) ≡ to
+blend_number-end from to t = rw (part_way-end from to) (clamp_size-within to t)
+
+pub blend_opacity-begin : (from to : ℕ) → IsOpacity from → IsOpacity to → blend_opacity from to (pos 0) ≡ from
+blend_opacity-begin from to f t = rw (part_way-begin (pos from) (pos to)) (clamp_to-within from f)
+
+pub blend_opacity-end : (from to : ℕ) → IsOpacity from → IsOpacity to → blend_opacity from to (pos ONE) ≡ to
+blend_opacity-end from to f t = rw (part_way-end (pos from) (pos to)) (clamp_to-within to t)

@@ -1,0 +1,60 @@
+ghost use Rattle.std.specs.Prelude.{◌≡◌, ◌≤◌, unsigned_abs};
+ghost use Rattle.anim_timeline.specs.Timelines.{IsTime, last_time, timeline_of, timeline_time};
+
+use std::marker::Model;
+
+/// A clock of animations: it shows 0 at one tick, and at any other how far that tick is from it.
+///
+/// Contracts see the tick at which it shows 0.
+#[derive(Clone, Copy, Debug, PartialEq, Eq, Hash)]
+pub struct Timeline {
+    origin: u64,
+}
+
+impl Model for Timeline {
+    ghost use Rattle.std.specs.Prelude.{ℕ};
+    ghost use Rattle.anim_timeline.specs.Timelines.{IsTime};
+
+    ghost Value = { ℕ };
+
+    ghost view = { λ t. t.origin };
+
+    ghost invariant = { λ t. IsTime t.origin };
+
+    ghost inverse = { λ n. record { origin = n } };
+}
+
+impl Timeline {
+    /// The timeline that shows 0 at this tick, in microseconds. There is none exactly where the tick is above 2^50.
+    pub fn new(origin: u64) -> Option<Timeline>
+        ensures { result ≡ timeline_of origin }
+    {
+        if origin <= LAST {
+            Some(Timeline { origin })
+        } else {
+            None
+        }
+    }
+
+    /// The tick at which it shows 0.
+    pub fn zero(&self) -> u64
+        ensures value { result ≡ self.now }
+
+        // What holds of every timeline: `new` would take it.
+        ensures within { IsTime self.now }
+    {
+        self.origin
+    }
+
+    /// What it shows at a tick, both in microseconds: less than 0 before its zero.
+    pub fn time_of(&self, tick: u64) -> i64
+        requires { IsTime tick }
+        ensures value { result ≡ timeline_time self.now tick }
+        ensures size { unsigned_abs result ≤ last_time }
+    {
+        tick as i64 - self.origin as i64
+    }
+}
+
+/// The last tick: 2^50.
+const LAST: u64 = 1 << 50;

@@ -1,0 +1,94 @@
+ghost use Rattle.std.specs.Prelude.{◌≡◌, IfOk, IsOk, ◌≤◌, ◌^◌, unsigned_abs};
+ghost use Rattle.value_blend.specs.Blends.{IsOpacity, opacity_of, blend_opacity};
+
+use crate::{Blend, number};
+use std::alloc::AllocError;
+use std::marker::Model;
+
+/// How much an element hides of what lies behind it, in millionths: 0 is invisible, 1,000,000 opaque.
+#[derive(Clone, Copy, Debug, PartialEq, Eq, Hash, PartialOrd, Ord)]
+pub struct Opacity {
+    millionths: u32,
+}
+
+impl Model for Opacity {
+    ghost use Rattle.std.specs.Prelude.{ℕ};
+    ghost use Rattle.value_blend.specs.Blends.{IsOpacity};
+
+    ghost Value = { ℕ };
+
+    ghost view = { λ o. o.millionths };
+
+    ghost invariant = { λ o. IsOpacity o.millionths };
+
+    ghost inverse = { λ n. record { millionths = n } };
+}
+
+impl Opacity {
+    /// The opacity of so many millionths. There is none exactly where they are below 0 or above 1,000,000.
+    pub fn new(millionths: i64) -> Option<Opacity>
+        ensures { result ≡ opacity_of millionths }
+    {
+        if (0..=FULL).contains(&millionths) {
+            Some(Opacity {
+                millionths: millionths as u32,
+            })
+        } else {
+            None
+        }
+    }
+
+    /// The millionths.
+    pub fn get(&self) -> u32
+        ensures value { result ≡ self.now }
+
+        // What holds of every opacity: `new` would take it.
+        ensures within { IsOpacity self.now }
+    {
+        self.millionths
+    }
+}
+
+impl Blend for Opacity {
+    const TAKES_MEMORY: bool = false;
+
+    ghost use Rattle.std.specs.Prelude.{◌≡◌, false};
+    ghost use Rattle.value_blend.specs.Blends.{IsOpacity, blend_opacity};
+    ghost use Rattle.value_blend.specs.BlendLemmas.{blend_opacity-begin, blend_opacity-end};
+
+    ghost TAKES_MEMORY = { false };
+
+    ghost is_value = { IsOpacity };
+
+    ghost blended = { blend_opacity };
+
+    ghost alike = { λ x y. x ≡ y };
+
+    fn blend(from: &Self, to: &Self, progress: i64) -> Result<Self, AllocError> {
+        let millionths = blend_opacity(from.millionths, to.millionths, progress);
+        Ok(Opacity { millionths })
+    }
+
+    fn copy(&self) -> Result<Self, AllocError> {
+        let _ = &self.millionths;
+        Ok(*self)
+    }
+
+    ghost begins_alike = { blend_opacity-begin };
+
+    ghost ends_alike = { blend_opacity-end };
+}
+
+// The blend of two opacities' millionths.
+fn blend_opacity(from: u32, to: u32, progress: i64) -> u32
+    requires from_within { IsOpacity from }
+    requires to_within { IsOpacity to }
+    requires progress_within { unsigned_abs progress ≤ 2 ^ 24 }
+    ensures value { result ≡ blend_opacity from to progress }
+    ensures within { IsOpacity result }
+{
+    number::part_way(i64::from(from), i64::from(to), progress).clamp(0, FULL) as u32
+}
+
+/// The opacity of what hides all behind it.
+const FULL: i64 = 1_000_000;
