@@ -10,6 +10,7 @@ pub mod LateElement
 pub mod LostElement
 pub mod NoIterations
 pub mod Pieces
+pub mod Policies
 pub mod RecordedStarts
 pub mod RefusedEdits
 pub mod ReplacedCommit

@@ -15,6 +15,7 @@ ghost use Rattle.worked_scripts.specs.InterleavedGroups as interleaved_groups;
 ghost use Rattle.worked_scripts.specs.LateElement as late_element;
 ghost use Rattle.worked_scripts.specs.LostElement as lost_element;
 ghost use Rattle.worked_scripts.specs.NoIterations as no_iterations;
+ghost use Rattle.worked_scripts.specs.Policies as policies;
 ghost use Rattle.worked_scripts.specs.RecordedStarts as recorded_starts;
 ghost use Rattle.worked_scripts.specs.ReplacedCommit as replaced_commit;
 ghost use Rattle.worked_scripts.specs.SeveralOrders as several_orders;
@@ -99,6 +100,13 @@ pub fn fill_below()
 pub fn aborted_for_good()
     ensures well_formed { IsWellFormed aborted_for_good.script }
     ensures report { report_of aborted_for_good.script aborted_for_good.script.word ≡ aborted_for_good.report }
+{}
+
+/// After what it has heard main's tree keeps the models that their policies keep.
+pub fn policies()
+    ensures well_formed { IsWellFormed policies.script }
+    ensures report { report_of policies.script policies.script.word ≡ policies.report }
+    ensures kept { policies.models_left ≡ policies.kept }
 {}
 
 /// The start that is recorded is the given one, or the time of the timeline, which may be negative.
