@@ -1,0 +1,97 @@
+-- The board between the lanes: what its calls answer and note, read off the entries that were made so far, and the word
+-- that a journal stands for.
+use Rattle.std.specs.Prelude.{◌≡◌, ℕ, ◌+◌, ◌-◌, ◌==◌, ◌≤◌, Bool, true, false, ◌||◌, if◌then◌else◌, List, [], ◌++◌, fold, count_by, replicate, Option, Some, None, is_none, unwrap_or}
+use Rattle.anim_names.specs.declared.entry.Entry.{Entry}
+use Rattle.anim_names.specs.declared.entry.EntryKind.{EntryKind}
+use Rattle.anim_names.specs.declared.entry.EntryKind.TheVariants.{Publish, Pull, Send, Drain}
+use Rattle.anim_names.specs.declared.lane.Lane.{Lane}
+use Rattle.anim_names.specs.declared.lane.Lane.TheVariants.{Main, Compositor}
+use Rattle.commit_lock.specs.Journals.{entries_of}
+use Rattle.tree_commit.specs.Trees.{Committed}
+use Rattle.tree_commit.specs.Scripts.{is_main, is_compositor}
+
+-- ---- what the entries so far say
+
+abbrev pub is_publish : EntryKind → Bool
+is_publish (Publish number) = true
+is_publish (Pull number) = false
+is_publish (Send count) = false
+is_publish (Drain count) = false
+
+-- how many commits were published, which is the number of the newest
+abbrev pub published : List Entry → ℕ
+published entries = count_by (λ entry. is_publish entry.kind) entries
+
+-- the number that was pulled last, after one more entry
+abbrev pub pulled_after : ℕ → EntryKind → ℕ
+pulled_after last (Publish number) = last
+pulled_after last (Pull number) = unwrap_or number last
+pulled_after last (Send count) = last
+pulled_after last (Drain count) = last
+
+-- the number of the commit that was pulled last, 0 at first
+abbrev pub last_pulled : List Entry → ℕ
+last_pulled entries = fold (λ last entry. pulled_after last entry.kind) 0 entries
+
+-- up to which of its steps a lane has made entries, 0 at first
+abbrev pub last_upto : Lane → List Entry → ℕ
+last_upto lane entries = fold (λ last entry. entry.upto) 0 (entries_of lane entries)
+
+-- ---- the board
+
+-- All entries in order; the mailbox, in which the newest published commit lies until it is pulled; and how many entries
+-- can still be made without memory.
+pub record Exchange : Type 0 where
+  pub entries : List Entry
+  pub mailbox : Option Committed
+  pub room : ℕ
+
+-- What holds of every board: no number is pulled that was not published, and the mailbox is empty exactly where the
+-- newest is pulled already.
+pub record IsExchange (board : Exchange) : Type 0 where
+  pub pulled_within : last_pulled board.entries ≤ published board.entries
+  pub empty : is_none board.mailbox ≡ (published board.entries == last_pulled board.entries)
+
+-- a pull finds nothing: a commit is pending, or the newest is pulled already
+abbrev pub finds_nothing : List Entry → Bool → Bool
+finds_nothing entries pending = pending || published entries == last_pulled entries
+
+-- what a pull gives
+abbrev pub reply_to_pull : Exchange → Bool → Option Committed
+reply_to_pull board pending = if finds_nothing board.entries pending then None else board.mailbox
+
+-- what a pull leaves in the mailbox
+abbrev pub mailbox_after_pull : Exchange → Bool → Option Committed
+mailbox_after_pull board pending = if finds_nothing board.entries pending then board.mailbox else None
+
+-- ---- the entries of the calls
+
+-- A commit gets the number after the last one published.
+abbrev pub publish_entry : List Entry → ℕ → Entry
+publish_entry entries upto = record { lane = Main; upto = upto; kind = Publish (published entries + 1) }
+
+-- the number of the commit that a pull gives
+abbrev pub pulled_number : List Entry → Bool → Option ℕ
+pulled_number entries pending = if finds_nothing entries pending then None else Some (published entries)
+
+abbrev pub pull_entry : List Entry → ℕ → Bool → Entry
+pull_entry entries upto pending = record { lane = Compositor; upto = upto; kind = Pull (pulled_number entries pending) }
+
+-- ---- the word of a journal
+
+abbrev pub letters_of : Lane → List Lane → ℕ
+letters_of Main word = count_by is_main word
+letters_of Compositor word = count_by is_compositor word
+
+-- the word with letters of the lane behind it, until the lane has so many
+abbrev pub filled : Lane → ℕ → List Lane → List Lane
+filled lane upto word = word ++ replicate (upto - letters_of lane word) lane
+
+-- for each entry in order, letters of its lane until that lane has as many as the entry says steps were made
+abbrev pub word_so_far : List Entry → List Lane
+word_so_far entries = fold (λ word entry. filled entry.lane entry.upto word) [] entries
+
+-- The word of a journal, for lanes of so many steps: behind the word so far come the rest of main's letters and then
+-- the rest of the compositor's.
+unfoldable pub word_of_journal : List Entry → ℕ → ℕ → List Lane
+word_of_journal entries main compositor = filled Compositor compositor (filled Main main (word_so_far entries))

@@ -1,0 +1,14 @@
+//! The board between main and the compositor: a mailbox for the newest commit, and the journal of all that the two
+//! did with it.
+//!
+//! To the layer above it promises that each call answers as the entries before it say, makes exactly one entry of
+//! its own and takes no memory, and that the word of a journal can be read off it.
+#![tactic(auto)]
+
+mod board;
+mod word;
+
+pub use board::Board;
+
+#[cfg(test)]
+mod tests;

@@ -1,0 +1,257 @@
+ghost use Rattle.std.specs.Prelude.{◌≡◌, ◌==◌, ◌<◌, ◌≤◌, false, None, map, IfOk, OnOk, OnErr};
+ghost use Rattle.std.specs.Result.{result_err};
+ghost use Rattle.tree_commit.specs.Trees.{has_model};
+ghost use Rattle.tree_commit.specs.Edits.{AddElement, AddModel, AddTimeline, RemoveElement, RemoveModel, SetOpacity, SetTransform, edit_refusal, with_look, without};
+ghost use Rattle.tree_commit.specs.Tables.{element_of};
+ghost use Rattle.tree_commit.specs.Views.{change_of, look_of};
+
+use anim_names::{ElementId, ModelId, TimelineId};
+use anim_timeline::Timeline;
+use indexmap::IndexMap;
+use keyframe_model::ModelSpec;
+use std::alloc::{AllocError, Global};
+use std::marker::Model;
+use std::sync::Arc;
+use transform_ops::TransformList;
+use tree_commit::{Base, Commit, Edit, EditBook, EditFault};
+use value_blend::Opacity;
+
+/// Main's tree: elements, keyframe models and timelines, each in order of insertion, and the book that edits of them
+/// are checked against.
+///
+/// There is one, and it lives on main's thread. What the compositor sees of it are commits.
+#[derive(Drop)]
+pub struct MainTree {
+    book: EditBook,
+    elements: IndexMap<ElementId, Base>,
+    models: IndexMap<ModelId, Arc<ModelSpec>>,
+    timelines: IndexMap<TimelineId, Timeline>,
+}
+
+impl Model for MainTree {
+    ghost use Rattle.main_tree.specs.EditedTrees.{EditedTree};
+
+    ghost Value = { EditedTree };
+
+    ghost use Rattle.tree_commit.specs.Tables.{StandUnderOwnIds};
+    ghost use Rattle.main_tree.specs.EditedTrees.{edited_tables, GoesWithBook};
+
+    ghost view = { λ t. edited_tables t.book t.elements.entries t.models.entries t.timelines.entries };
+
+    ghost invariant = { λ t.
+        StandUnderOwnIds t.models.entries
+        × GoesWithBook (edited_tables t.book t.elements.entries t.models.entries t.timelines.entries) };
+}
+
+impl MainTree {
+    ghost use Rattle.main_tree.specs.EditedTrees.{after_commit, after_edit, finds_its_target, new_tree, next_commit, refusal_in, GoesWithBook};
+
+    /// The tree before any edit, which has nothing in it.
+    pub fn new(alloc: Global) -> Result<MainTree, AllocError>
+        ensures { IfOk result (λ tree. tree ≡ new_tree) }
+    {
+        Ok(MainTree {
+            book: EditBook::new(alloc)?,
+            elements: IndexMap::new(alloc),
+            models: IndexMap::new(alloc),
+            timelines: IndexMap::new(alloc),
+        })
+    }
+
+    /// How many commits there were.
+    pub fn commits(&self) -> u32
+        ensures value { result ≡ self.now.book.commits }
+
+        // What holds of every tree: there are at most 256, and the tree and its book go together.
+        ensures within { result ≤ 256 }
+        ensures kept { GoesWithBook self.now }
+    {
+        self.book.commits()
+    }
+
+    /// Makes an edit, and says whether it found what it is about: only a model that is to be removed may be gone.
+    pub fn edit(&mut self, edit: &Edit) -> Result<bool, EditFault>
+        ensures made { OnOk result (self.new ≡ after_edit self.old (change_of edit.now)) }
+        ensures found { IfOk result (λ found. found ≡ finds_its_target self.old.tree (change_of edit.now)) }
+
+        // A model that is gone is removed once more: nothing changes.
+        ensures lost { result ≡ Ok false → self.new ≡ self.old }
+
+        // It is refused exactly as a book refuses it that has the same edits and commits.
+        ensures refused { refusal_in (result_err result) ≡ edit_refusal self.old.book (change_of edit.now) }
+        ensures err { OnErr result (self.new ≡ self.old) }
+    {
+        self.book.check(edit)?;
+        Ok(self.make(edit)?)
+    }
+
+    /// The tree as it is, under the next number.
+    pub fn commit(&mut self) -> Result<Arc<Commit>, AllocError>
+        requires { self.old.book.commits < 256 }
+        ensures given { IfOk result (λ commit. commit.value ≡ next_commit self.old) }
+        ensures counted { OnOk result (self.new ≡ after_commit self.old) }
+        ensures err { OnErr result (self.new ≡ self.old) }
+    {
+        let commit = Commit::build(
+            *self.elements.allocator(),
+            self.book.commits() + 1,
+            &self.elements,
+            &self.models,
+            &self.timelines,
+        )?;
+        self.book.commit_made();
+        Ok(commit)
+    }
+
+    // Makes an edit that is not refused.
+    fn make(&mut self, edit: &Edit) -> Result<bool, AllocError>
+        requires { edit_refusal self.old.book (change_of edit.now) ≡ None }
+        ensures made { OnOk result (self.new ≡ after_edit self.old (change_of edit.now)) }
+        ensures found { IfOk result (λ found. found ≡ finds_its_target self.old.tree (change_of edit.now)) }
+        ensures err { OnErr result (self.new ≡ self.old) }
+    {
+        match edit {
+            Edit::AddElement { id, base } => {
+                self.add_element(edit, *id, base)?;
+                Ok(true)
+            }
+            Edit::RemoveElement { id } => {
+                self.remove_element(edit, *id)?;
+                Ok(true)
+            }
+            Edit::SetOpacity { id, opacity } => {
+                self.set_opacity(*id, *opacity);
+                Ok(true)
+            }
+            Edit::SetTransform { id, transform } => {
+                self.set_transform(*id, transform)?;
+                Ok(true)
+            }
+            Edit::AddTimeline { id, timeline } => {
+                self.add_timeline(edit, *id, *timeline)?;
+                Ok(true)
+            }
+            Edit::AddModel { spec } => {
+                self.add_model(edit, spec)?;
+                Ok(true)
+            }
+            Edit::RemoveModel { id } => Ok(self.remove_model(*id)),
+        }
+    }
+
+    fn add_element(&mut self, edit: &Edit, id: ElementId, base: &Base) -> Result<(), AllocError>
+        requires is_this { change_of edit.now ≡ AddElement id (look_of base.now) }
+        requires allowed { edit_refusal self.old.book (change_of edit.now) ≡ None }
+        ensures made { OnOk result (self.new ≡ after_edit self.old (change_of edit.now)) }
+        ensures err { OnErr result (self.new ≡ self.old) }
+    {
+        let base = base.clone()?;
+        self.elements.reserve(1)?;
+        self.book.note(edit)?;
+        self.elements.insert(id, base).unwrap();
+        Ok(())
+    }
+
+    fn remove_element(&mut self, edit: &Edit, id: ElementId) -> Result<(), AllocError>
+        requires is_this { change_of edit.now ≡ RemoveElement id }
+        requires allowed { edit_refusal self.old.book (change_of edit.now) ≡ None }
+        ensures made { OnOk result (self.new ≡ after_edit self.old (change_of edit.now)) }
+        ensures err { OnErr result (self.new ≡ self.old) }
+    {
+        self.book.note(edit)?;
+        take_out(&mut self.elements, id);
+        Ok(())
+    }
+
+    fn set_opacity(&mut self, id: ElementId, opacity: Opacity)
+        requires { edit_refusal self.old.book (SetOpacity id opacity) ≡ None }
+        ensures { self.new ≡ after_edit self.old (SetOpacity id opacity) }
+    {
+        change_opacity(&mut self.elements, id, opacity);
+    }
+
+    fn set_transform(
+        &mut self,
+        id: ElementId,
+        transform: &Arc<TransformList>,
+    ) -> Result<(), AllocError>
+        requires { edit_refusal self.old.book (SetTransform id transform.now.value) ≡ None }
+        ensures made { OnOk result (self.new ≡ after_edit self.old (SetTransform id transform.now.value)) }
+        ensures err { OnErr result (self.new ≡ self.old) }
+    {
+        let transform = transform.clone()?;
+        change_transform(&mut self.elements, id, transform);
+        Ok(())
+    }
+
+    fn add_timeline(
+        &mut self,
+        edit: &Edit,
+        id: TimelineId,
+        timeline: Timeline,
+    ) -> Result<(), AllocError>
+        requires is_this { change_of edit.now ≡ AddTimeline id timeline }
+        requires allowed { edit_refusal self.old.book (change_of edit.now) ≡ None }
+        ensures made { OnOk result (self.new ≡ after_edit self.old (change_of edit.now)) }
+        ensures err { OnErr result (self.new ≡ self.old) }
+    {
+        self.timelines.reserve(1)?;
+        self.book.note(edit)?;
+        self.timelines.insert(id, timeline).unwrap();
+        Ok(())
+    }
+
+    fn add_model(&mut self, edit: &Edit, spec: &Arc<ModelSpec>) -> Result<(), AllocError>
+        requires is_this { change_of edit.now ≡ AddModel spec.now.value }
+        requires allowed { edit_refusal self.old.book (change_of edit.now) ≡ None }
+        ensures made { OnOk result (self.new ≡ after_edit self.old (change_of edit.now)) }
+        ensures err { OnErr result (self.new ≡ self.old) }
+    {
+        let spec = spec.clone()?;
+        self.models.reserve(1)?;
+        self.book.note(edit)?;
+        self.models.insert(spec.id(), spec).unwrap();
+        Ok(())
+    }
+
+    // Removes a model, and says whether it was there.
+    fn remove_model(&mut self, id: ModelId) -> bool
+        requires { edit_refusal self.old.book (RemoveModel id) ≡ None }
+        ensures made { self.new ≡ after_edit self.old (RemoveModel id) }
+        ensures found { result ≡ has_model self.old.tree id }
+    {
+        self.models.shift_remove(&id).is_some()
+    }
+}
+
+// Removes an element and closes the gap.
+fn take_out(elements: &mut IndexMap<ElementId, Base>, id: ElementId)
+    ensures { map element_of elements.new.entries
+        ≡ without (λ element. id == element.id) (map element_of elements.old.entries) }
+{
+    elements.shift_remove(&id);
+}
+
+#[tactic(auto, using(crate::proofs::TableEdits::looks))]
+fn change_opacity(elements: &mut IndexMap<ElementId, Base>, id: ElementId, opacity: Opacity)
+    ensures { map element_of elements.new.entries
+        ≡ with_look id (λ look. record look { opacity = opacity }) (map element_of elements.old.entries) }
+{
+    if let Some(base) = elements.get_mut(&id) {
+        base.opacity = opacity;
+    }
+}
+
+#[tactic(auto, using(crate::proofs::TableEdits::looks))]
+fn change_transform(
+    elements: &mut IndexMap<ElementId, Base>,
+    id: ElementId,
+    transform: Arc<TransformList>,
+)
+    ensures { map element_of elements.new.entries
+        ≡ with_look id (λ look. record look { transform = transform.value }) (map element_of elements.old.entries) }
+{
+    if let Some(base) = elements.get_mut(&id) {
+        base.transform = transform;
+    }
+}

@@ -1,0 +1,31 @@
+-- What the edits, the steps and the rows of frames of the code stand for: whatever is shared there is seen as its value.
+use Rattle.tree_commit.specs.declared.base.Base.{Base}
+use Rattle.tree_commit.specs.declared.edit.Edit.{Edit}
+use Rattle.tree_commit.specs.declared.edit.Edit.TheVariants as edit
+use Rattle.tree_commit.specs.declared.frame_row.FrameRow.{FrameRow}
+use Rattle.tree_commit.specs.declared.main_step.MainStep.{MainStep}
+use Rattle.tree_commit.specs.declared.main_step.MainStep.TheVariants as step
+use Rattle.tree_commit.specs.Trees.{Look}
+use Rattle.tree_commit.specs.Edits.{Change, AddElement, RemoveElement, SetOpacity, SetTransform, AddTimeline, AddModel, RemoveModel}
+use Rattle.tree_commit.specs.Frames.{DrawnRow}
+use Rattle.tree_commit.specs.Scripts.{StepOfMain, EditStep, CommitStep, DrainStep}
+
+abbrev pub look_of : Base → Look
+look_of base = record { opacity = base.opacity; transform = base.transform.value }
+
+abbrev pub change_of : Edit → Change
+change_of (edit.AddElement id base) = AddElement id (look_of base)
+change_of (edit.RemoveElement id) = RemoveElement id
+change_of (edit.SetOpacity id opacity) = SetOpacity id opacity
+change_of (edit.SetTransform id transform) = SetTransform id transform.value
+change_of (edit.AddTimeline id timeline) = AddTimeline id timeline
+change_of (edit.AddModel spec) = AddModel spec.value
+change_of (edit.RemoveModel id) = RemoveModel id
+
+abbrev pub step_of : MainStep → StepOfMain
+step_of (step.Edit change) = EditStep (change_of change)
+step_of step.Commit = CommitStep
+step_of step.Drain = DrainStep
+
+abbrev pub drawn_row_of : FrameRow → DrawnRow
+drawn_row_of row = record { element = row.element; opacity = row.opacity; transform = row.transform }

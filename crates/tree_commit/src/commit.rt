@@ -1,0 +1,160 @@
+ghost use Rattle.std.specs.Prelude.{◌≡◌, ◌==◌, nat_eq, ◌<◌, IsTrue, IfOk, length, map, find, position, slice_get, Some, is_some, option_map};
+ghost use Rattle.std.specs.List.{IsDistinct};
+ghost use Rattle.std.specs.Option.{option_copied};
+ghost use Rattle.tree_commit.specs.Trees.{Committed, empty_commit, has_element, has_model};
+
+use crate::Base;
+use anim_names::{ElementId, ModelId, TimelineId};
+use anim_timeline::Timeline;
+use indexmap::IndexMap;
+use keyframe_model::ModelSpec;
+use std::alloc::{AllocError, Global};
+use std::marker::Model;
+use std::sync::Arc;
+
+/// Main's tree as it was at one commit step. It never changes, so both threads may hold it.
+///
+/// Lists and models are shared with main's tree and with other commits; a commit has only tables of its own. A
+/// contract sees its number and the tree as lists.
+#[derive(Drop)]
+pub struct Commit {
+    number: u32,
+    elements: IndexMap<ElementId, Base>,
+    models: IndexMap<ModelId, Arc<ModelSpec>>,
+    timelines: IndexMap<TimelineId, Timeline>,
+}
+
+impl Model for Commit {
+    ghost use Rattle.tree_commit.specs.Trees.{Committed};
+
+    ghost Value = { Committed };
+
+    ghost use Rattle.tree_commit.specs.Tables.{tree_of, StandUnderOwnIds, HasAllTimelines};
+
+    ghost view = { λ c. record {
+      number = c.number;
+      tree = tree_of c.elements.entries c.models.entries c.timelines.entries;
+    } };
+
+    ghost invariant = { λ c.
+        StandUnderOwnIds c.models.entries
+        × HasAllTimelines (tree_of c.elements.entries c.models.entries c.timelines.entries) };
+}
+
+impl Commit {
+    ghost use Rattle.tree_commit.specs.Tables.{tree_of, has_timeline, StandUnderOwnIds, HasAllTimelines};
+    ghost use Rattle.tree_commit.specs.Views.{look_of};
+
+    /// Commit 0, which has nothing in it.
+    pub fn empty(alloc: Global) -> Result<Arc<Commit>, AllocError>
+        ensures { IfOk result (λ made. made.value ≡ empty_commit) }
+    {
+        let commit = Commit {
+            number: 0,
+            elements: IndexMap::new(alloc),
+            models: IndexMap::new(alloc),
+            timelines: IndexMap::new(alloc),
+        };
+        Ok(Arc::new(alloc, commit)?)
+    }
+
+    /// The commit of this number, of the tree that these tables hold.
+    pub fn build(
+        alloc: Global,
+        number: u32,
+        elements: &IndexMap<ElementId, Base>,
+        models: &IndexMap<ModelId, Arc<ModelSpec>>,
+        timelines: &IndexMap<TimelineId, Timeline>,
+    ) -> Result<Arc<Commit>, AllocError>
+        requires own_ids { StandUnderOwnIds models.now.entries }
+        requires timelines_there { HasAllTimelines (tree_of elements.now.entries models.now.entries timelines.now.entries) }
+        ensures { IfOk result (λ made.
+            made.value
+            ≡ record { number = number; tree = tree_of elements.now.entries models.now.entries timelines.now.entries }) }
+    {
+        let commit = Commit {
+            number,
+            elements: elements.clone()?,
+            models: models.clone()?,
+            timelines: timelines.clone()?,
+        };
+        Ok(Arc::new(alloc, commit)?)
+    }
+
+    /// Which commit step it was, from 1 on; 0 for the commit that is active before any other.
+    pub fn number(&self) -> u32
+        ensures { result ≡ self.now.number }
+    {
+        self.number
+    }
+
+    /// How many elements it has.
+    pub fn element_count(&self) -> usize
+        ensures count { result ≡ length self.now.tree.elements }
+
+        // What holds of every commit: no id stands twice.
+        ensures differ { IsDistinct nat_eq (map (λ element. element.id) self.now.tree.elements) }
+    {
+        self.elements.len()
+    }
+
+    /// The element at a place, which counts from 0, with what it shows where nothing animates it.
+    pub fn element_at(&self, i: usize) -> (ElementId, &Base)
+        requires { i < length self.now.tree.elements }
+        ensures { slice_get self.now.tree.elements i ≡ Some (record { id = result.0; look = look_of result.1.now }) }
+    {
+        let (id, base) = self.elements.get_index(i).unwrap();
+        (*id, base)
+    }
+
+    /// Whether the element is in it.
+    pub fn has_element(&self, id: ElementId) -> bool
+        ensures { result ≡ has_element self.now.tree id }
+    {
+        self.elements.contains_key(&id)
+    }
+
+    /// How many keyframe models it has.
+    pub fn model_count(&self) -> usize
+        ensures count { result ≡ length self.now.tree.models }
+
+        // What holds of every commit: no id stands twice, and the timeline of each model is there.
+        ensures differ { IsDistinct nat_eq (map (λ model. model.id) self.now.tree.models) }
+        ensures timelines_there { HasAllTimelines self.now.tree }
+    {
+        self.models.len()
+    }
+
+    /// The model at a place, which counts from 0.
+    pub fn model_at(&self, i: usize) -> &Arc<ModelSpec>
+        requires { i < length self.now.tree.models }
+        ensures { slice_get self.now.tree.models i ≡ Some result.now.value }
+    {
+        let (_, model) = self.models.get_index(i).unwrap();
+        model
+    }
+
+    /// Whether the model is in it.
+    pub fn has_model(&self, id: ModelId) -> bool
+        ensures { result ≡ has_model self.now.tree id }
+    {
+        self.models.contains_key(&id)
+    }
+
+    /// The place of the model. There is none exactly where the model is not in it.
+    pub fn place_of(&self, id: ModelId) -> Option<usize>
+        ensures place { result ≡ position (λ model. id == model.id) self.now.tree.models }
+        ensures found { is_some result ≡ has_model self.now.tree id }
+    {
+        self.models.get_index_of(&id)
+    }
+
+    /// The timeline of this id. There is none exactly where it is not in the commit.
+    pub fn timeline(&self, id: TimelineId) -> Option<&Timeline>
+        ensures origin { option_copied result
+            ≡ option_map (λ clock. clock.origin) (find (λ clock. id == clock.id) self.now.tree.timelines) }
+        ensures found { is_some result ≡ has_timeline self.now.tree id }
+    {
+        self.timelines.get(&id)
+    }
+}

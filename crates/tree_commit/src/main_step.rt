@@ -1,0 +1,12 @@
+use crate::Edit;
+
+/// One step of main.
+#[derive(Debug, Drop)]
+pub enum MainStep {
+    /// Change main's tree.
+    Edit(Edit),
+    /// Publish main's tree as the next commit.
+    Commit,
+    /// Hear what happened since the last drain.
+    Drain,
+}
