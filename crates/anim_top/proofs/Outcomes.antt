@@ -6,14 +6,16 @@ use Rattle.edge_io.specs.Edges.{Took}
 use Rattle.frame_script.specs.declared.refusal.Cause.{Cause}
 use Rattle.frame_script.specs.declared.refusal.Cause.TheVariants.{TooLong}
 use Rattle.frame_script.specs.Refusals.{Refusal}
-use Rattle.frame_script.specs.Fades.{Fade, reading}
-use Rattle.frame_script.proofs.Whole.{was_written, is_read}
+use Rattle.frame_script.specs.Animations.{Animation}
+use Rattle.frame_script.specs.Reading.{reading}
+use Rattle.frame_script.proofs.WholeRead.{was_written}
+use Rattle.frame_script.proofs.WholeWritten.{is_read}
 use Rattle.anim_top.specs.declared.status.Status.{Status}
 use Rattle.anim_top.specs.declared.status.Status.TheVariants.{Done, Refused}
 use Rattle.anim_top.specs.Answers.{status_for, text_for}
 use Rattle.anim_top.specs.Outside.{Reads, IsDone, IsRefused, Answers, most_bytes}
 
-too_long : Result Fade Refusal
+too_long : Result Animation Refusal
 too_long = Err (record { line = 0; cause = TooLong })
 
 -- more are refused whatever they say
@@ -39,14 +41,14 @@ refusal_is : (refusal : Refusal) (number : ℕ) (cause : Cause) → refusal.line
 refusal_is refusal number cause p q = ap (λ (n : ℕ). refusal_at n refusal.cause) p ∙ ap (refusal_at number) q
 
 module _ (left after taken took : Option (List ℕ)) (bytes : List ℕ) (status : Status) (text : List ℕ) (read : Reads left after bytes) (written : Took taken took text) where
-  done_for : (r : Result Fade Refusal) → reading bytes ≡ r → status ≡ status_for r → text ≡ text_for r → status ≡ Done → IsDone left after taken took
-  done_for (Ok fade) spelled status-is text-is done =
+  done_for : (r : Result Animation Refusal) → reading bytes ≡ r → status ≡ status_for r → text ≡ text_for r → status ≡ Done → IsDone left after taken took
+  done_for (Ok script) spelled status-is text-is done =
       record {
         bytes = bytes;
-        script = fade;
+        script = script;
         read = read.given;
-        whole = read.whole (was_written bytes fade spelled).short;
-        spelled = was_written bytes fade spelled;
+        whole = read.whole (was_written bytes script spelled).short;
+        spelled = was_written bytes script spelled;
         written = subst (λ (t : List ℕ). Took taken took t) text-is written;
       }
   done_for (Err refusal) refused status-is text-is done = absurd cc
@@ -54,8 +56,8 @@ module _ (left after taken took : Option (List ℕ)) (bytes : List ℕ) (status 
   pub is_done : status ≡ status_for (reading bytes) → text ≡ text_for (reading bytes) → status ≡ Done → IsDone left after taken took
   is_done = done_for (reading bytes) refl
 
-  refused_for : (r : Result Fade Refusal) (number : ℕ) (cause : Cause) → reading bytes ≡ r → status ≡ status_for r → text ≡ text_for r → status ≡ Refused number cause → IsRefused left after taken took number cause
-  refused_for (Ok fade) number cause spelled status-is text-is refused = absurd cc
+  refused_for : (r : Result Animation Refusal) (number : ℕ) (cause : Cause) → reading bytes ≡ r → status ≡ status_for r → text ≡ text_for r → status ≡ Refused number cause → IsRefused left after taken took number cause
+  refused_for (Ok script) number cause spelled status-is text-is refused = absurd cc
   refused_for (Err refusal) number cause read-is status-is text-is refused =
       let same_line : refusal.line ≡ number = cc in
       let same_cause : refusal.cause ≡ cause = cc in

@@ -5,8 +5,9 @@ use Rattle.std.specs.Str.{bytes_eq}
 use Rattle.frame_script.specs.declared.refusal.Cause.{Cause}
 use Rattle.frame_script.specs.declared.refusal.Cause.TheVariants.{BadLine, TooLong}
 use Rattle.frame_script.specs.Refusals.{Refusal}
-use Rattle.frame_script.specs.Fades.{Fade, reading}
-use Rattle.word_machine.specs.Replays.{report_of}
+use Rattle.frame_script.specs.Animations.{Animation, script_of, word_of}
+use Rattle.frame_script.specs.Reading.{reading}
+use Rattle.tree_commit.specs.Runs.{report_of}
 use Rattle.word_machine.specs.Texts.{line, report_text}
 use Rattle.anim_top.specs.declared.status.Status.{Status}
 use Rattle.anim_top.specs.declared.status.Status.TheVariants.{Done, Refused}
@@ -28,11 +29,15 @@ cause_text TooLong = codes "TooLong"
 abbrev pub refusal_text : ℕ → Cause → List ℕ
 refusal_text number cause = line (codes "refused: line " ++ decimal number ++ codes ": " ++ cause_text cause)
 
+-- the text of the report of a script, as its word orders its steps
+abbrev pub text_of_report : Animation → List ℕ
+text_of_report script = report_text (report_of (script_of script) (word_of script))
+
 -- the status and the text for what was read
-abbrev pub status_for : Result Fade Refusal → Status
-status_for (Ok fade) = Done
+abbrev pub status_for : Result Animation Refusal → Status
+status_for (Ok script) = Done
 status_for (Err refusal) = Refused refusal.line refusal.cause
 
-abbrev pub text_for : Result Fade Refusal → List ℕ
-text_for (Ok fade) = report_text (report_of fade)
+abbrev pub text_for : Result Animation Refusal → List ℕ
+text_for (Ok script) = text_of_report script
 text_for (Err refusal) = refusal_text refusal.line refusal.cause

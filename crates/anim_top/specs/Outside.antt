@@ -2,13 +2,12 @@
 use Rattle.std.specs.Prelude.{◌≡◌, ℕ, ◌+◌, ◌^◌, ◌≤◌, List, length, take, Option, IfSome, ◌⊎◌}
 use Rattle.edge_io.specs.Edges.{Gave, Took}
 use Rattle.frame_script.specs.declared.refusal.Cause.{Cause}
-use Rattle.frame_script.specs.Fades.{Fade, reading}
-use Rattle.frame_script.specs.FadeTexts.{Spells}
-use Rattle.word_machine.specs.Replays.{report_of}
-use Rattle.word_machine.specs.Texts.{report_text}
+use Rattle.frame_script.specs.Animations.{Animation}
+use Rattle.frame_script.specs.Reading.{reading}
+use Rattle.frame_script.specs.Spelling.{Spells}
 use Rattle.anim_top.specs.declared.status.Status.{Status}
 use Rattle.anim_top.specs.declared.status.Status.TheVariants.{Done, Refused, NoMemory}
-use Rattle.anim_top.specs.Answers.{IsRefusedAt, refusal_text, text_for}
+use Rattle.anim_top.specs.Answers.{IsRefusedAt, refusal_text, text_of_report, text_for}
 
 abbrev pub most_bytes : ℕ
 most_bytes = 2 ^ 20
@@ -23,11 +22,11 @@ pub record Reads (left after : Option (List ℕ)) (bytes : List ℕ) : Type 0 wh
 -- The source's bytes were read to their end, they spell a script, and the sink took that script's report.
 pub record IsDone (left after taken took : Option (List ℕ)) : Type 0 where
   pub bytes : List ℕ
-  pub script : Fade
+  pub script : Animation
   pub read : Gave left after bytes
   pub whole : IfSome left (λ all. all ≡ bytes)
   pub spelled : Spells bytes script
-  pub written : Took taken took (report_text (report_of script))
+  pub written : Took taken took (text_of_report script)
 
 -- The source's bytes, read to their end or to one more than a script may have, are refused so, and the sink took the
 -- refusal.
@@ -50,5 +49,5 @@ OrNoMemory status wanted = (status ≡ wanted) ⊎ (status ≡ NoMemory)
 
 -- The answer to these bytes, unless memory ran out: Done where they spell a script, and else their refusal.
 pub record Answers (status : Status) (bytes : List ℕ) : Type 0 where
-  pub spelled : (script : Fade) → Spells bytes script → OrNoMemory status Done
+  pub spelled : (script : Animation) → Spells bytes script → OrNoMemory status Done
   pub refused : (number : ℕ) (cause : Cause) → IsRefusedAt bytes number cause → OrNoMemory status (Refused number cause)

@@ -1,7 +1,7 @@
 //! The answer to a script's bytes.
 
 ghost use Rattle.std.specs.Prelude.{◌≡◌, IfOk, string_bytes};
-ghost use Rattle.frame_script.specs.Fades.{reading};
+ghost use Rattle.frame_script.specs.Reading.{reading};
 ghost use Rattle.anim_top.specs.Answers.{refusal_text, cause_text, status_for, text_for};
 
 use crate::Status;

@@ -51,6 +51,38 @@ heard 2
 end
 ";
 
+const SLIDE: &str = "anim 1
+main
+timeline 1 0
+element 1 1000000 none
+model 1 1 1 1 transform - 0 1000 0 normal both 1000 auto linear 2
+key 0 ease-out translate:0:40000:0
+key 400000 linear translate:0:0:0
+commit
+compositor
+pull
+activate
+tick 0
+tick 137000
+tick 400000
+word MMMMCCCCC
+end
+";
+
+const SLID: &str = "report 1
+word MMMMCCCCC
+frame 0 commit 1
+element 1 1000000 translate:0:40000:0
+frame 137000 commit 1
+element 1 1000000 translate:0:20000:0
+frame 400000 commit 1
+element 1 1000000 translate:0:0:0
+started 1 group 1 at 0 start 0
+finished 1 at 400000
+heard 2
+end
+";
+
 /// The text with one line changed, or left out where there is no new one.
 fn with_line(
     alloc: Global,
@@ -99,6 +131,7 @@ fn a_script_is_replayed(rt: HostRuntime) -> Result<(), Fail> {
     for (script, report) in [
         (SCRIPT, REPORT),
         (finished.as_str(), FINISHED),
+        (SLIDE, SLID),
         (still.as_str(), "report 1\nword MMMMCC\nheard 0\nend\n"),
     ] {
         let (status, text) = replayed(&rt, script.as_bytes())?;
@@ -122,7 +155,21 @@ fn the_first_bad_line_is_refused(rt: HostRuntime) -> Result<(), Fail> {
             5,
             "model 2 1 1 1 opacity - 0 1000 0 normal none 1000 auto linear 2",
         ),
+        (
+            5,
+            "model 1 1 1 1 opacity - 0 1000 0 normal none 1000 auto linear 17",
+        ),
+        (
+            5,
+            "model 1 1 1 1 opacity - 0 infinite 0 normal none -1000 auto linear 2",
+        ),
+        (
+            5,
+            "model 1 1 1 1 opacity 0 0 1000 0 normal none 1000 auto linear 2",
+        ),
         (6, "key 0 linear +1"),
+        (6, "key 0 steps:1:jump-none 0"),
+        (6, "key 0 linear none"),
         (6, "key 1 linear 0"),
         (7, "key 0 linear 1000000"),
         (7, "key 68719476737 linear 1000000"),

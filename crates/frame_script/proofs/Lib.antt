@@ -1,8 +1,6 @@
 pub mod Cuts
-pub mod Digits
 pub mod Ticks
-pub mod Spelled
-pub mod Written
+pub mod Said
+pub mod Keys
 pub mod WholeRead
 pub mod WholeWritten
-pub mod Whole

@@ -2,7 +2,8 @@
 use Rattle.std.proofs.Common.{◌≡◌, ℕ, suc, ◌+◌, ◌-◌, ◌<◌, ◌≤◌, List, [], ◌∷◌, ◌++◌, Some, None, refl, ap, sym, ◌∙◌, append_assoc, arith}
 use Rattle.std.proofs.lemmas.List.{append-nil}
 use Rattle.frame_script.specs.Refusals.{Left}
-use Rattle.frame_script.specs.Fades.{NeverFall, latest, tick_at, ticks_from, with_front}
+use Rattle.frame_script.specs.Animations.{NeverFall, latest}
+use Rattle.frame_script.specs.Reading.{tick_at, ticks_from, with_front}
 
 pub goes_on : (front : List ℕ) (most i last time : ℕ) (left after : Left) (total : List ℕ × Left) → i < most → Some (time, after) ≡ tick_at last left
     → with_front front (ticks_from (most - i) last left) ≡ total → with_front (front ++ time ∷ []) (ticks_from (most - (i + 1)) time after) ≡ total

@@ -1,6 +1,6 @@
 pub mod Lines
-pub mod Fields
-pub mod Numbers
 pub mod Refusals
-pub mod Fades
-pub mod FadeTexts
+pub mod Animations
+pub mod Animated
+pub mod Reading
+pub mod Spelling

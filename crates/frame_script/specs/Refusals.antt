@@ -7,7 +7,7 @@ use Rattle.frame_script.specs.declared.refusal.ScriptFault.{ScriptFault}
 use Rattle.frame_script.specs.declared.refusal.ScriptFault.TheVariants as faults
 use Rattle.frame_script.specs.declared.place.Place.{Place}
 use Rattle.frame_script.specs.Lines.{lines}
-use Rattle.frame_script.specs.Fields.{fields}
+use Rattle.script_fields.specs.Fields.{fields}
 
 -- a script is refused at a line, for a cause
 pub record Refusal : Type 0 where

@@ -1,22 +1,13 @@
 //! Laws of the definitions: each function's clauses are one, and its body does nothing.
 
-ghost use Rattle.std.specs.Prelude.{◌≡◌, ℕ, ◌^◌, ◌<◌, ℤ, List, Some, Ok, unsigned_abs};
-ghost use Rattle.std.specs.Fmt.{decimal, signed_decimal};
-ghost use Rattle.frame_script.specs.Fades.{Fade, reading};
-ghost use Rattle.frame_script.specs.FadeTexts.{Spells};
-ghost use Rattle.frame_script.specs.Numbers.{natural_of, integer_of};
+ghost use Rattle.std.specs.Prelude.{◌≡◌, ℕ, List, Ok};
+ghost use Rattle.frame_script.specs.Animations.{Animation};
+ghost use Rattle.frame_script.specs.Reading.{reading};
+ghost use Rattle.frame_script.specs.Spelling.{Spells};
 
-/// A number has one spelling, the one that printing gives: that is read as the number, and no other is.
-pub fn numbers_have_one_spelling()
-    ensures printed { (n : ℕ) → n < 2 ^ 64 → natural_of (decimal n) ≡ Some n }
-    ensures read { (field : List ℕ) (n : ℕ) → n < 2 ^ 64 → natural_of field ≡ Some n → field ≡ decimal n }
-    ensures signed_printed { (z : ℤ) → unsigned_abs z < 2 ^ 64 → integer_of (signed_decimal z) ≡ Some z }
-    ensures signed_read { (field : List ℕ) (z : ℤ) → unsigned_abs z < 2 ^ 64 → integer_of field ≡ Some z → field ≡ signed_decimal z }
-{}
-
-/// A script has one way to be written down, line by line, up to a last line feed: what is read was written so, and what
-/// is written so is read.
-pub fn scripts_have_one_spelling()
-    ensures read { (bytes : List ℕ) (script : Fade) → reading bytes ≡ Ok script → Spells bytes script }
-    ensures written { (bytes : List ℕ) (script : Fade) → Spells bytes script → reading bytes ≡ Ok script }
+/// Reading line by line and the lines of a script agree: what is read is spelled so, and what is spelled so is read.
+/// So bytes spell one script at most.
+pub fn scripts_are_read_as_written()
+    ensures read { (bytes : List ℕ) (script : Animation) → reading bytes ≡ Ok script → Spells bytes script }
+    ensures written { (bytes : List ℕ) (script : Animation) → Spells bytes script → reading bytes ≡ Ok script }
 {}

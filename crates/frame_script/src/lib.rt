@@ -1,24 +1,22 @@
-//! The text of a script: its lines, their fields and numbers, and what they say.
+//! The text of a script: its lines, and what they say.
 //!
 //! [`read_script`] gives the script that the bytes spell, or the first line that is refused. Both are a
-//! function of the bytes, which `specs/Fades.antt` reads line by line.
+//! function of the bytes, which `specs/Reading.antt` reads line by line.
 #![tactic(auto)]
 
-mod fade;
-mod fade_lines;
-mod fields;
+mod animation;
+mod key_value;
 pub mod laws;
+mod line_fields;
 mod lines;
-mod numbers;
+mod model_line;
 mod place;
-mod read_fade;
+mod read_animation;
 mod refusal;
 
-pub use fade::FadeScript;
-pub use fields::fields_of;
+pub use animation::AnimationScript;
 pub use lines::split_line;
-pub use numbers::{integer_within, natural_within};
-pub use read_fade::{MOST_BYTES, read_script};
+pub use read_animation::{MOST_BYTES, read_script};
 pub use refusal::{Cause, ScriptFault};
 
 #[cfg(test)]

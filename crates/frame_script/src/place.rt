@@ -2,9 +2,9 @@
 
 ghost use Rattle.std.specs.Prelude.{◌≡◌, ◌+◌, ◌≤◌, ◌<◌, ◌^◌, length, map, option_map};
 
-use crate::fields::fields_of;
 use crate::lines::split_line;
 use crate::refusal::{Cause, ScriptFault};
+use script_fields::fields_of;
 use std::alloc::Global;
 
 /// A place between two lines of a script: the text that is left, and the number of its first line.

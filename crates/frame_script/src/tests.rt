@@ -1,62 +1,83 @@
 use super::*;
+use anim_delegate::Policy;
+use anim_names::Property;
+use easing_fixed::Easing;
+use keyframe_model::CurveOf;
+use micro_time::{Direction, Fill, Iterations};
 use std::test::Fail;
 
 #[test]
-fn numbers_have_one_spelling(rt: HostRuntime) {
-    for (field, low, high, number) in [
-        ("0", 0, 9, Some(0)),
-        ("-7", -7, 9, Some(-7)),
-        ("9", -7, 9, Some(9)),
-        ("10", -7, 9, None),
-        ("-8", -7, 9, None),
-        ("-0", -7, 9, None),
-        ("01", -7, 9, None),
-        ("+1", -7, 9, None),
-        ("1 ", -7, 9, None),
-        ("-", -7, 9, None),
-        ("", -7, 9, None),
-        ("-9223372036854775808", i64::MIN, i64::MAX, Some(i64::MIN)),
-        ("9223372036854775807", i64::MIN, i64::MAX, Some(i64::MAX)),
-        ("9223372036854775808", i64::MIN, i64::MAX, None),
-        ("99999999999999999999999", i64::MIN, i64::MAX, None),
-    ] {
-        assert_eq!(rt;
-            integer_within(field.as_bytes(), low, high),
-            number,
-            "for {field:?}"
-        );
-    }
-    assert_eq!(rt;
-        natural_within(b"1125899906842624", 0, 1 << 50),
-        Some(1 << 50)
-    );
-    assert_eq!(rt; natural_within(b"1125899906842625", 0, 1 << 50), None);
-}
-
-#[test]
-fn lines_and_fields_are_cut(rt: HostRuntime) -> Result<(), Fail> {
+fn lines_are_cut(rt: HostRuntime) {
     let mut rest = b"a b\n\n c ".as_slice();
-    let mut numbers = Vec::new(rt.alloc());
-    for _ in 0..4 {
+    for expected in [b"a b".as_slice(), b"".as_slice(), b" c ".as_slice()] {
         let Some((line, after)) = split_line(rest) else {
             break;
         };
-        numbers.push(fields_of(rt.alloc(), line)?.len())?;
+        assert_eq!(rt; line, expected);
         rest = after;
     }
-    assert_eq!(rt; numbers.as_slice(), [2, 1, 3].as_slice());
-    Ok(())
+    assert!(rt; split_line(rest).is_none());
 }
+
+const SLIDE: &str = "anim 1
+main
+timeline 1 0
+element 1 7 scale:1:2:3 skew:4:5
+model 1 1 1 1 transform - -500 2500 250 alternate-reverse both -2000 finished ease-in 3
+key 0 ease-out translate:0:40000:0
+key 9 steps:4:end none
+key 400000 linear translate:0:0:0 rotate:0:0:1:90000
+commit
+compositor
+pull
+activate
+tick 11
+tick 11
+word MMMMCCCC
+end";
 
 #[test]
 fn a_script_is_read(rt: HostRuntime) -> Result<(), Fail> {
-    let text =
-        "anim 1\nmain\ntimeline 1 0\nelement 1 7 none\nmodel 1 1 1 1 opacity - 0 1000 0 normal none 1000 auto linear 2\nkey 0 linear 8\nkey 9 linear 10\ncommit\ncompositor\npull\nactivate\ntick 11\ntick 11\nword MMMMCCCC\nend";
-    let Ok(script) = read_script(rt.alloc(), text.as_bytes()) else {
+    let Ok(script) = read_script(rt.alloc(), SLIDE.as_bytes()) else {
         return Err(Fail::from("the script is refused"));
     };
-    assert_eq!(rt; (script.base(), script.from(), script.to()), (7, 8, 10));
-    assert_eq!(rt; script.duration(), 9);
+    assert_eq!(rt; script.opacity().get(), 7);
+    assert_eq!(rt; script.transform().len(), 2);
     assert_eq!(rt; script.ticks(), [11, 11].as_slice());
+
+    let spec = script.spec();
+    assert_eq!(rt; (spec.id().0, spec.group().0), (1, 1));
+    assert_eq!(rt; (spec.element().0, spec.timeline().0), (1, 1));
+    assert_eq!(rt; spec.property(), Property::Transform);
+    assert_eq!(rt; spec.policy(), Policy::FinishedOnly);
+    assert_eq!(rt; spec.start(), None);
+    let timing = spec.timing();
+    assert_eq!(rt; timing.duration(), 400_000);
+    assert_eq!(rt; timing.offset(), -500);
+    assert_eq!(rt; timing.iterations(), Iterations::Finite(2500));
+    assert_eq!(rt; timing.iteration_start(), 250);
+    assert_eq!(rt; timing.direction(), Direction::AlternateReverse);
+    assert_eq!(rt; timing.fill(), Fill::Both);
+    assert_eq!(rt; timing.rate(), -2000);
+
+    let CurveOf::Transform(curve) = spec.curve() else {
+        return Err(Fail::from("the curve is one of opacities"));
+    };
+    assert_eq!(rt; curve.easing(), &Easing::ease_in());
+    assert_eq!(rt; curve.key_count(), 3);
+    if curve.key_count() == 3 {
+        assert_eq!(rt; curve.key(0).easing, Easing::ease_out());
+        assert_eq!(rt; curve.key(1).time, 9);
+        assert!(rt; curve.key(1).value.is_empty());
+        assert_eq!(rt; curve.key(2).value.len(), 2);
+    }
     Ok(())
+}
+
+fn is_shared<T: Send + Sync>() {}
+
+#[test]
+fn a_script_is_shared_between_threads() {
+    is_shared::<AnimationScript>();
+    is_shared::<ScriptFault>();
 }

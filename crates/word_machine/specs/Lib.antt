@@ -1,3 +1,2 @@
-pub mod Reports
-pub mod Replays
+pub mod Shortcuts
 pub mod Texts

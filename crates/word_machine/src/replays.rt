@@ -1,33 +1,43 @@
-//! Replaying a fade script.
+//! Replaying a script of one element and one keyframe model.
+//!
+//! The model starts in the first tick, and finishes in the first later one at which it is done. So its start and its
+//! finish are found once, and each frame asks the model for one value.
 
-ghost use Rattle.std.specs.Prelude.{◌≡◌, ◌+◌, ◌-◌, ◌≤◌, ◌<◌, ◌++◌, ◌∷◌, [], length, map, find, replicate, slice_index, nat_le, IfOk, OnOk, Option};
+ghost use Rattle.std.specs.Prelude.{◌≡◌, ◌+◌, ◌≤◌, ◌^◌, ◌++◌, ◌∷◌, [], length, map, replicate, unsigned_abs, All, IfOk, OnOk, Some, None};
 ghost use Rattle.anim_names.specs.declared.lane.Lane.TheVariants.{Main, Compositor};
-ghost use Rattle.word_machine.specs.Replays.{report_of, as_opacity, opacity_at, opacity_between, frame_at, events_of, finish_of, start_of, word_of};
+ghost use Rattle.frame_script.specs.Animations.{latest, model_of, most_ticks, script_of, word_of};
+ghost use Rattle.keyframe_model.specs.Models.{model_value};
+ghost use Rattle.keyframe_model.specs.Views.{value_of};
+ghost use Rattle.tree_commit.specs.Runs.{report_of};
+ghost use Rattle.tree_commit.specs.Views.{drawn_row_of};
+ghost use Rattle.word_machine.specs.Shortcuts.{since, is_done_at, row_with, frame_of, frames_of, first_of, finish_of, events_at};
 
-use crate::{Frame, FrameRow, Report};
-use anim_names::{AnimEvent, ElementId, GroupId, Lane, ModelId};
-use frame_script::FadeScript;
+use crate::Report;
+use anim_names::{AnimEvent, Lane};
+use frame_script::AnimationScript;
+use keyframe_model::Value;
 use std::alloc::{AllocError, Global};
+use tree_commit::{Frame, FrameRow};
+use value_blend::Blend;
 
-/// 1 in the fixed point of progress.
-const ONE: u64 = 1 << 20;
-
-/// Opaque, in millionths.
-const OPAQUE: i64 = 1_000_000;
+/// The number of the one commit.
+const COMMIT: u32 = 1;
 
 /// What a script reports when its lanes' steps are made in the order of its word.
-pub fn replay(alloc: Global, script: &FadeScript) -> Result<Report, AllocError>
-    ensures { IfOk result (λ report. report ≡ report_of script.now) }
+#[tactic(auto, using(crate::proofs::RunLemmas::report_of_animation))]
+pub fn replay(alloc: Global, script: &AnimationScript) -> Result<Report, AllocError>
+    ensures { IfOk result (λ report. report ≡ report_of (script_of script.now) (word_of script.now)) }
 {
     let word = word_of(alloc, script)?;
     let frames = frames_of(alloc, script)?;
     let events = events_of(alloc, script)?;
-    let mut heard = Vec::new(alloc);
-    heard.push(events.len() as u32)?;
+    let heard = vec![in alloc; events.len() as u32]?;
     Ok(Report::new(word, frames, events, heard))
 }
 
-fn word_of(alloc: Global, script: &FadeScript) -> Result<Vec<Lane>, AllocError>
+// ---- the word
+
+fn word_of(alloc: Global, script: &AnimationScript) -> Result<Vec<Lane>, AllocError>
     ensures { IfOk result (λ word. word.items ≡ word_of script.now) }
 {
     let mut word = Vec::new(alloc);
@@ -45,95 +55,138 @@ fn push_letters(word: &mut Vec<Lane>, lane: Lane, count: usize) -> Result<(), Al
     Ok(())
 }
 
-fn frames_of(alloc: Global, script: &FadeScript) -> Result<Vec<Frame>, AllocError>
-    ensures { IfOk result (λ frames. frames.items ≡ map (frame_at script.now) script.now.ticks) }
+// ---- the ticks
+
+// The times of the ticks, which are all within their range.
+fn ticks_of(script: &AnimationScript) -> &[u64]
+    ensures value { result.now ≡ script.now.ticks }
+    ensures within { All (λ time. time ≤ latest) result.now }
 {
+    script.ticks()
+}
+
+// The model's local time at a tick.
+fn local_time(start: u64, time: u64) -> i64
+    requires start_within { start ≤ latest }
+    requires time_within { time ≤ latest }
+    ensures value { result ≡ since start time }
+    ensures within { unsigned_abs result ≤ 2 ^ 52 }
+{
+    time as i64 - start as i64
+}
+
+// ---- the frames
+
+fn frames_of(alloc: Global, script: &AnimationScript) -> Result<Vec<Frame>, AllocError>
+    ensures { IfOk result (λ frames. frames.items ≡ frames_of script.now) }
+{
+    let ticks = ticks_of(script);
+    let start = first_of(ticks);
     let mut frames = Vec::new(alloc);
-    for time in script.ticks() {
-        frames.push(frame_at(alloc, script, *time)?)?;
+    for time in ticks {
+        frames.push(frame_of(alloc, script, start, *time)?)?;
     }
     Ok(frames)
 }
 
-fn frame_at(alloc: Global, script: &FadeScript, time: u64) -> Result<Frame, AllocError>
-    ensures { IfOk result (λ frame. frame ≡ frame_at script.now time) }
+// The time of the first tick, at which the model starts.
+fn first_of(ticks: &[u64]) -> u64
+    requires { All (λ time. time ≤ latest) ticks.now }
+    ensures value { result ≡ first_of ticks.now }
+    ensures within { result ≤ latest }
 {
-    let mut rows = Vec::new(alloc);
-    rows.push(FrameRow {
-        element: ElementId(1),
-        opacity: opacity_at(script, local_time(script, time)),
-    })?;
-    Ok(Frame::from_rows(time, 1, rows))
+    ticks.first().copied().unwrap_or(0)
 }
 
-/// The time since the first tick, at which the model starts.
-fn local_time(script: &FadeScript, time: u64) -> u64
-    ensures { result ≡ time - start_of script.now }
+fn frame_of(
+    alloc: Global,
+    script: &AnimationScript,
+    start: u64,
+    time: u64,
+) -> Result<Frame, AllocError>
+    requires start_within { start ≤ latest }
+    requires time_within { time ≤ latest }
+    ensures { IfOk result (λ frame. frame ≡ frame_of script.now start time) }
 {
-    match script.ticks().first() {
-        Some(start) => time.saturating_sub(*start),
-        None => time,
+    let row = row_at(script, local_time(start, time))?;
+    let rows = vec![in alloc; row]?;
+    Ok(Frame::from_rows(time, COMMIT, rows))
+}
+
+// The element's row, by the value that the model has at a local time.
+fn row_at(script: &AnimationScript, local: i64) -> Result<FrameRow, AllocError>
+    requires { unsigned_abs local ≤ 2 ^ 52 }
+    ensures { IfOk result (λ row. drawn_row_of row ≡ row_with script.now (model_value (model_of script.now) local)) }
+{
+    match script.spec().value(local)? {
+        Some(value) => row_showing(script, value),
+        None => own_row(script),
     }
 }
 
-fn opacity_at(script: &FadeScript, local: u64) -> u32
-    ensures { result ≡ opacity_at script.now local }
+// The element's row, with a value of the model in place of its property.
+fn row_showing(script: &AnimationScript, value: Value) -> Result<FrameRow, AllocError>
+    ensures { IfOk result (λ row. drawn_row_of row ≡ row_with script.now (Some (value_of value))) }
 {
-    if local >= script.duration() {
-        return script.base();
-    }
-    let progress = local * ONE / script.duration();
-    opacity_between(script.from(), script.to(), progress)
-}
-
-fn opacity_between(from: u32, to: u32, progress: u64) -> u32
-    requires { progress ≤ 1048576 }
-    ensures { result ≡ opacity_between from to progress }
-{
-    let way = (i64::from(to) - i64::from(from)) * progress as i64;
-    as_opacity(i64::from(from) + way.div_euclid(ONE as i64))
-}
-
-/// The opacity that is nearest to a number of millionths.
-fn as_opacity(millionths: i64) -> u32
-    ensures { result ≡ as_opacity millionths }
-{
-    if millionths < 0 {
-        0
-    } else {
-        millionths.min(OPAQUE) as u32
+    match value {
+        Value::Opacity(opacity) => Ok(FrameRow {
+            element: script.spec().element(),
+            opacity,
+            transform: script.transform().copy()?,
+        }),
+        Value::Transform(transform) => Ok(FrameRow {
+            element: script.spec().element(),
+            opacity: script.opacity(),
+            transform,
+        }),
     }
 }
 
-fn events_of(alloc: Global, script: &FadeScript) -> Result<Vec<AnimEvent>, AllocError>
-    ensures given { IfOk result (λ events. events.items ≡ events_of script.now) }
+// The element's row where the model gives no value.
+fn own_row(script: &AnimationScript) -> Result<FrameRow, AllocError>
+    ensures { IfOk result (λ row. drawn_row_of row ≡ row_with script.now None) }
+{
+    Ok(FrameRow {
+        element: script.spec().element(),
+        opacity: script.opacity(),
+        transform: script.transform().copy()?,
+    })
+}
+
+// ---- the events
+
+fn events_of(alloc: Global, script: &AnimationScript) -> Result<Vec<AnimEvent>, AllocError>
+    ensures given { IfOk result (λ events. events.items ≡ events_at script.now script.now.ticks) }
     ensures few { IfOk result (λ events. length events.items ≤ 2) }
 {
     let mut events = Vec::new(alloc);
-    if let Some(start) = script.ticks().first() {
+    if let Some((start, later)) = ticks_of(script).split_first() {
         events.push(AnimEvent::Started {
-            model: ModelId(1),
-            group: GroupId(1),
+            model: script.spec().id(),
+            group: script.spec().group(),
             at: *start,
             start: *start as i64,
         })?;
-    }
-    if let Some(at) = finish_of(script) {
-        events.push(AnimEvent::Finished {
-            model: ModelId(1),
-            at,
-        })?;
+        if let Some(at) = finish_of(script, *start, later) {
+            events.push(AnimEvent::Finished {
+                model: script.spec().id(),
+                at,
+            })?;
+        }
     }
     Ok(events)
 }
 
-/// The first tick at which the model's time is over.
-fn finish_of(script: &FadeScript) -> Option<u64>
-    ensures { result ≡ finish_of script.now }
+// The first of the later ticks at which the model is done.
+fn finish_of(script: &AnimationScript, start: u64, later: &[u64]) -> Option<u64>
+    requires start_within { start ≤ latest }
+    requires later_within { All (λ time. time ≤ latest) later.now }
+    ensures { result ≡ finish_of script.now start later.now }
 {
-    script
-        .ticks()
-        .iter()
-        .copied()
-        .find(|time| local_time(script, *time) >= script.duration())
+    for time in later {
+        if script.spec().is_done(local_time(start, *time)) {
+            return Some(*time);
+        }
+    }
+    None
 }

@@ -1,6 +1,6 @@
-use crate::Frame;
 use anim_names::{AnimEvent, Lane};
 use std::marker::Model;
+use tree_commit::Frame;
 
 /// What a run of a script showed and told.
 #[derive(Debug, Drop)]
@@ -12,9 +12,9 @@ pub struct Report {
 }
 
 impl Model for Report {
-    ghost use Rattle.word_machine.specs.Reports.{ReportParts};
+    ghost use Rattle.tree_commit.specs.Runs.{ReportLists};
 
-    ghost Value = { ReportParts };
+    ghost Value = { ReportLists };
 
     ghost view = { λ r. record { word = r.word.items; frames = r.frames.items; events = r.events.items; heard = r.heard.items } };
 }

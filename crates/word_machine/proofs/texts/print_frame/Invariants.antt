@@ -3,5 +3,5 @@ use Rattle.std.specs.List.{flat_map}
 use Rattle.word_machine.specs.Texts.{row_text}
 use Rattle.word_machine.proofs.texts.print_frame.Given as goal
 
-abbrev pub invariant-loop-row : goal.invariant-loop-row
-invariant-loop-row l = string_bytes l.out ≡ string_bytes l.initial.out ++ flat_map row_text (take l.row-index l.row-items)
+abbrev pub invariant-loop-i : goal.invariant-loop-i
+invariant-loop-i l = string_bytes l.out ≡ string_bytes l.initial.out ++ flat_map row_text (take l.i l.frame.rows)

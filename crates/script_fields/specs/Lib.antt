@@ -1,0 +1,5 @@
+pub mod Numbers
+pub mod Fields
+pub mod Words
+pub mod Easings
+pub mod Lists

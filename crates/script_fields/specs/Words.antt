@@ -1,0 +1,61 @@
+-- Fields that are one of a few words.
+use Rattle.std.specs.Prelude.{ℕ, ◌^◌, List, Option, Some, None, option_map, if◌then◌else◌, codes}
+use Rattle.std.specs.Str.{bytes_eq}
+use Rattle.anim_names.specs.declared.property.Property.{Property}
+use Rattle.anim_names.specs.declared.property.Property.TheVariants.{Opacity, Transform}
+use Rattle.anim_delegate.specs.declared.policy.Policy.{Policy}
+use Rattle.anim_delegate.specs.declared.policy.Policy.TheVariants.{Auto, FinishedOnly, Manual}
+use Rattle.micro_time.specs.declared.direction.Direction.{Direction}
+use Rattle.micro_time.specs.declared.direction.Direction.TheVariants.{Normal, Reverse, Alternate, AlternateReverse}
+use Rattle.micro_time.specs.declared.fill.Fill.{Fill}
+use Rattle.micro_time.specs.declared.fill.Fill.TheVariants.{Neither, Forwards, Backwards, Both}
+use Rattle.micro_time.specs.declared.iterations.Iterations.{Iterations}
+use Rattle.micro_time.specs.declared.iterations.Iterations.TheVariants.{Finite, Infinite}
+use Rattle.easing_fixed.specs.declared.position.StepPosition.{StepPosition}
+use Rattle.easing_fixed.specs.declared.position.StepPosition.TheVariants.{JumpStart, JumpEnd, JumpNone, JumpBoth}
+use Rattle.script_fields.specs.Numbers.{natural_within}
+
+abbrev pub property_said : List ℕ → Option Property
+property_said word =
+    if bytes_eq word (codes "opacity") then Some Opacity else
+    if bytes_eq word (codes "transform") then Some Transform else
+    None
+
+abbrev pub direction_said : List ℕ → Option Direction
+direction_said word =
+    if bytes_eq word (codes "normal") then Some Normal else
+    if bytes_eq word (codes "reverse") then Some Reverse else
+    if bytes_eq word (codes "alternate") then Some Alternate else
+    if bytes_eq word (codes "alternate-reverse") then Some AlternateReverse else
+    None
+
+abbrev pub fill_said : List ℕ → Option Fill
+fill_said word =
+    if bytes_eq word (codes "none") then Some Neither else
+    if bytes_eq word (codes "forwards") then Some Forwards else
+    if bytes_eq word (codes "backwards") then Some Backwards else
+    if bytes_eq word (codes "both") then Some Both else
+    None
+
+abbrev pub policy_said : List ℕ → Option Policy
+policy_said word =
+    if bytes_eq word (codes "auto") then Some Auto else
+    if bytes_eq word (codes "finished") then Some FinishedOnly else
+    if bytes_eq word (codes "manual") then Some Manual else
+    None
+
+-- where a step function jumps: `start` and `end` are short for two of the words
+abbrev pub position_said : List ℕ → Option StepPosition
+position_said word =
+    if bytes_eq word (codes "jump-start") then Some JumpStart else
+    if bytes_eq word (codes "jump-end") then Some JumpEnd else
+    if bytes_eq word (codes "jump-none") then Some JumpNone else
+    if bytes_eq word (codes "jump-both") then Some JumpBoth else
+    if bytes_eq word (codes "start") then Some JumpStart else
+    if bytes_eq word (codes "end") then Some JumpEnd else
+    None
+
+-- how often a curve is run through, in thousandths
+abbrev pub iterations_said : List ℕ → Option Iterations
+iterations_said field =
+    if bytes_eq field (codes "infinite") then Some Infinite else option_map Finite (natural_within 0 (10 ^ 9) field)

@@ -1,0 +1,21 @@
+//! The fields of a script's lines: what each is spelled as, and what it says.
+//!
+//! A line is fields with a space between two, and a field may be parts with a colon between two. What a field says is
+//! a function of its bytes, which `specs/` gives for numbers, words, easings and lists; each reader here answers just
+//! that, and nothing where the field says nothing.
+#![tactic(auto)]
+
+pub mod easings;
+pub mod fields;
+pub mod laws;
+pub mod lists;
+pub mod numbers;
+pub mod words;
+
+pub use easings::easing_said;
+pub use fields::{fields_of, is};
+pub use lists::list_said;
+pub use numbers::{integer_within, natural_within};
+
+#[cfg(test)]
+mod tests;

@@ -1,0 +1,193 @@
+use super::*;
+use crate::words::{direction_said, fill_said, iterations_said, policy_said, property_said};
+use anim_delegate::Policy;
+use anim_names::Property;
+use easing_fixed::{Easing, StepPosition};
+use micro_time::{Direction, Fill, Iterations};
+use std::test::Fail;
+use transform_ops::TransformOp;
+
+#[test]
+fn numbers_have_one_spelling(rt: HostRuntime) {
+    for (field, low, high, number) in [
+        ("0", 0, 9, Some(0)),
+        ("-7", -7, 9, Some(-7)),
+        ("9", -7, 9, Some(9)),
+        ("10", -7, 9, None),
+        ("-8", -7, 9, None),
+        ("-0", -7, 9, None),
+        ("01", -7, 9, None),
+        ("+1", -7, 9, None),
+        ("1 ", -7, 9, None),
+        ("-", -7, 9, None),
+        ("", -7, 9, None),
+        ("-9223372036854775808", i64::MIN, i64::MAX, Some(i64::MIN)),
+        ("9223372036854775807", i64::MIN, i64::MAX, Some(i64::MAX)),
+        ("9223372036854775808", i64::MIN, i64::MAX, None),
+        ("99999999999999999999999", i64::MIN, i64::MAX, None),
+    ] {
+        assert_eq!(rt;
+            integer_within(field.as_bytes(), low, high),
+            number,
+            "for {field:?}"
+        );
+    }
+    assert_eq!(rt;
+        natural_within(b"1125899906842624", 0, 1 << 50),
+        Some(1 << 50)
+    );
+    assert_eq!(rt; natural_within(b"1125899906842625", 0, 1 << 50), None);
+}
+
+#[test]
+fn a_space_more_makes_an_empty_field(rt: HostRuntime) -> Result<(), Fail> {
+    assert_eq!(rt; fields_of(rt.alloc(), b"a b")?.len(), 2);
+    assert_eq!(rt; fields_of(rt.alloc(), b" c ")?.len(), 3);
+    assert_eq!(rt; fields_of(rt.alloc(), b"")?.len(), 1);
+    assert!(rt; is(b"c", "c"));
+    assert!(rt; !is(b"c", "c "));
+    Ok(())
+}
+
+#[test]
+fn words_say_what_they_name(rt: HostRuntime) {
+    assert_eq!(rt; property_said(b"opacity"), Some(Property::Opacity));
+    assert_eq!(rt; property_said(b"transform"), Some(Property::Transform));
+    assert_eq!(rt; property_said(b"Opacity"), None);
+    for (word, direction) in [
+        ("normal", Some(Direction::Normal)),
+        ("reverse", Some(Direction::Reverse)),
+        ("alternate", Some(Direction::Alternate)),
+        ("alternate-reverse", Some(Direction::AlternateReverse)),
+        ("reverse-alternate", None),
+    ] {
+        assert_eq!(rt; direction_said(word.as_bytes()), direction);
+    }
+    for (word, fill) in [
+        ("none", Some(Fill::Neither)),
+        ("forwards", Some(Fill::Forwards)),
+        ("backwards", Some(Fill::Backwards)),
+        ("both", Some(Fill::Both)),
+        ("neither", None),
+    ] {
+        assert_eq!(rt; fill_said(word.as_bytes()), fill);
+    }
+    for (word, policy) in [
+        ("auto", Some(Policy::Auto)),
+        ("finished", Some(Policy::FinishedOnly)),
+        ("manual", Some(Policy::Manual)),
+        ("none", None),
+    ] {
+        assert_eq!(rt; policy_said(word.as_bytes()), policy);
+    }
+    assert_eq!(rt; iterations_said(b"infinite"), Some(Iterations::Infinite));
+    assert_eq!(rt; iterations_said(b"2500"), Some(Iterations::Finite(2500)));
+    assert_eq!(rt; iterations_said(b"1000000001"), None);
+    assert_eq!(rt; iterations_said(b"Infinite"), None);
+}
+
+#[test]
+fn easings_are_spelled_in_three_forms(rt: HostRuntime) -> Result<(), Fail> {
+    for (field, easing) in [
+        ("linear", Some(Easing::Linear)),
+        (
+            "ease",
+            Easing::cubic(250_000, 100_000, 250_000, 1_000_000).ok(),
+        ),
+        (
+            "ease-in",
+            Easing::cubic(420_000, 0, 1_000_000, 1_000_000).ok(),
+        ),
+        ("ease-out", Easing::cubic(0, 0, 580_000, 1_000_000).ok()),
+        (
+            "ease-in-out",
+            Easing::cubic(420_000, 0, 580_000, 1_000_000).ok(),
+        ),
+        ("step-start", Easing::steps(1, StepPosition::JumpStart).ok()),
+        ("step-end", Easing::steps(1, StepPosition::JumpEnd).ok()),
+        ("steps:4:end", Easing::steps(4, StepPosition::JumpEnd).ok()),
+        (
+            "steps:4:start",
+            Easing::steps(4, StepPosition::JumpStart).ok(),
+        ),
+        (
+            "steps:2:jump-none",
+            Easing::steps(2, StepPosition::JumpNone).ok(),
+        ),
+        (
+            "steps:3:jump-both",
+            Easing::steps(3, StepPosition::JumpBoth).ok(),
+        ),
+        (
+            "cubic:0:-10000000:1000000:5",
+            Easing::cubic(0, -10_000_000, 1_000_000, 5).ok(),
+        ),
+        ("steps:1:jump-none", None),
+        ("steps:0:end", None),
+        ("steps:1000001:end", None),
+        ("steps:4:END", None),
+        ("steps:4", None),
+        ("cubic:1000001:0:0:0", None),
+        ("cubic:0:10000001:0:0", None),
+        ("cubic:0:0:0", None),
+        ("cubic:0:0:0:0:0", None),
+        ("cubic:00:0:0:0", None),
+        ("spring", None),
+        ("", None),
+    ] {
+        assert_eq!(rt;
+            easing_said(rt.alloc(), field.as_bytes())?,
+            easing,
+            "for {field:?}"
+        );
+    }
+    Ok(())
+}
+
+#[test]
+fn a_list_is_none_or_operations(rt: HostRuntime) -> Result<(), Fail> {
+    let alloc = rt.alloc();
+    let line = b"translate:0:-40000:1 scale:1:2:3 rotate:0:0:1:90000 skew:1099511627776:-2";
+    let Some(list) = list_said(alloc, fields_of(alloc, line)?.as_slice())? else {
+        return Err(Fail::from("the list says nothing"));
+    };
+    assert_eq!(rt; list.len(), 4);
+    for (i, op) in [
+        TransformOp::Translate {
+            x: 0,
+            y: -40_000,
+            z: 1,
+        },
+        TransformOp::Scale { x: 1, y: 2, z: 3 },
+        TransformOp::Rotate {
+            x: 0,
+            y: 0,
+            z: 1,
+            angle: 90_000,
+        },
+        TransformOp::Skew { x: 1 << 40, y: -2 },
+    ]
+    .into_iter()
+    .enumerate()
+    {
+        if i < list.len() {
+            assert_eq!(rt; list.op(i), op);
+        }
+    }
+    let empty = list_said(alloc, fields_of(alloc, b"none")?.as_slice())?;
+    assert!(rt; matches!(&empty, Some(list) if list.is_empty()));
+    for line in [
+        "none none",
+        "skew:1:2 none",
+        "skew:1",
+        "skew:1:2:3",
+        "skew:1:1099511627777",
+        "rotate:0:0:1",
+        "matrix:1:0:0:1",
+        "skew:1:2 skew:1:2 skew:1:2 skew:1:2 skew:1:2 skew:1:2 skew:1:2 skew:1:2 skew:1:2",
+    ] {
+        let said = list_said(alloc, fields_of(alloc, line.as_bytes())?.as_slice())?;
+        assert!(rt; said.is_none(), "for {line:?}");
+    }
+    Ok(())
+}

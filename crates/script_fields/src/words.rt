@@ -1,0 +1,101 @@
+//! Fields that are one of a few words.
+
+ghost use Rattle.std.specs.Prelude.{◌≡◌};
+ghost use Rattle.script_fields.specs.Words as said;
+
+use crate::fields::is;
+use crate::numbers::natural_within;
+use anim_delegate::Policy;
+use anim_names::Property;
+use easing_fixed::StepPosition;
+use micro_time::{Direction, Fill, Iterations};
+
+/// What of its element a model animates.
+pub fn property_said(word: &[u8]) -> Option<Property>
+    ensures { result ≡ said.property_said word.now }
+{
+    if is(word, "opacity") {
+        Some(Property::Opacity)
+    } else if is(word, "transform") {
+        Some(Property::Transform)
+    } else {
+        None
+    }
+}
+
+/// In which direction a model runs.
+pub fn direction_said(word: &[u8]) -> Option<Direction>
+    ensures { result ≡ said.direction_said word.now }
+{
+    if is(word, "normal") {
+        Some(Direction::Normal)
+    } else if is(word, "reverse") {
+        Some(Direction::Reverse)
+    } else if is(word, "alternate") {
+        Some(Direction::Alternate)
+    } else if is(word, "alternate-reverse") {
+        Some(Direction::AlternateReverse)
+    } else {
+        None
+    }
+}
+
+/// Before and after which end a model gives a value.
+pub fn fill_said(word: &[u8]) -> Option<Fill>
+    ensures { result ≡ said.fill_said word.now }
+{
+    if is(word, "none") {
+        Some(Fill::Neither)
+    } else if is(word, "forwards") {
+        Some(Fill::Forwards)
+    } else if is(word, "backwards") {
+        Some(Fill::Backwards)
+    } else if is(word, "both") {
+        Some(Fill::Both)
+    } else {
+        None
+    }
+}
+
+/// After which event main drops a model by itself.
+pub fn policy_said(word: &[u8]) -> Option<Policy>
+    ensures { result ≡ said.policy_said word.now }
+{
+    if is(word, "auto") {
+        Some(Policy::Auto)
+    } else if is(word, "finished") {
+        Some(Policy::FinishedOnly)
+    } else if is(word, "manual") {
+        Some(Policy::Manual)
+    } else {
+        None
+    }
+}
+
+// Where a step function jumps.
+pub(crate) fn position_said(word: &[u8]) -> Option<StepPosition>
+    ensures { result ≡ said.position_said word.now }
+{
+    if is(word, "jump-start") || is(word, "start") {
+        Some(StepPosition::JumpStart)
+    } else if is(word, "jump-end") || is(word, "end") {
+        Some(StepPosition::JumpEnd)
+    } else if is(word, "jump-none") {
+        Some(StepPosition::JumpNone)
+    } else if is(word, "jump-both") {
+        Some(StepPosition::JumpBoth)
+    } else {
+        None
+    }
+}
+
+/// How often a model runs through its curve, in thousandths.
+pub fn iterations_said(field: &[u8]) -> Option<Iterations>
+    ensures { result ≡ said.iterations_said field.now }
+{
+    if is(field, "infinite") {
+        return Some(Iterations::Infinite);
+    }
+    let count = natural_within(field, 0, 1_000_000_000)?;
+    Some(Iterations::Finite(count as u32))
+}
