@@ -4,3 +4,4 @@ pub mod Said
 pub mod Keys
 pub mod WholeRead
 pub mod WholeWritten
+pub mod WellFormed

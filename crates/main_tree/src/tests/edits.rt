@@ -10,8 +10,47 @@ use std::process::Abort;
 use std::sync::Arc;
 use std::test::Fail;
 use transform_ops::TransformList;
-use tree_commit::{Base, Edit};
+use tree_commit::{Base, Edit, EditRefusal};
 use value_blend::Opacity;
+
+/// A model, its group, its element and its timeline, by their numbers.
+#[derive(Clone, Copy)]
+pub struct Names(pub u32, pub u32, pub u32, pub u32);
+
+/// What is tried, by numbers.
+#[derive(Clone, Copy)]
+pub enum Edited {
+    AddElement(u32),
+    RemoveElement(u32),
+    SetOpacity(u32),
+    AddTimeline(u32),
+    AddModel(Names, Property),
+    RemoveModel(u32),
+    /// A commit, which is no edit.
+    Commit,
+}
+
+/// What is expected of it.
+#[derive(Clone, Copy)]
+pub enum Answer {
+    Made,
+    /// The model that is to be removed is gone.
+    Gone,
+    Refused(EditRefusal),
+}
+
+/// The edit, where it is one.
+pub fn edit_of(rt: &impl Abort, alloc: Global, edited: Edited) -> Result<Option<Edit>, Fail> {
+    Ok(Some(match edited {
+        Edited::AddElement(id) => add_element(alloc, id)?,
+        Edited::RemoveElement(id) => Edit::RemoveElement { id: ElementId(id) },
+        Edited::SetOpacity(id) => set_opacity(id)?,
+        Edited::AddTimeline(id) => add_timeline(id)?,
+        Edited::AddModel(names, property) => add_model(rt, alloc, names, property)?,
+        Edited::RemoveModel(id) => Edit::RemoveModel { id: ModelId(id) },
+        Edited::Commit => return Ok(None),
+    }))
+}
 
 const DURATION: u64 = 100_000;
 
@@ -19,8 +58,8 @@ fn opaque() -> Result<Opacity, Fail> {
     Ok(Opacity::new(1_000_000).ok_or("no opacity")?)
 }
 
-/// Adds an opaque element with an empty list.
-pub fn add_element(alloc: Global, id: u32) -> Result<Edit, Fail> {
+// Adds an opaque element with an empty list.
+fn add_element(alloc: Global, id: u32) -> Result<Edit, Fail> {
     Ok(Edit::AddElement {
         id: ElementId(id),
         base: Base {
@@ -30,15 +69,15 @@ pub fn add_element(alloc: Global, id: u32) -> Result<Edit, Fail> {
     })
 }
 
-/// Makes an element half opaque.
-pub fn set_opacity(id: u32) -> Result<Edit, Fail> {
+// Makes an element half opaque.
+fn set_opacity(id: u32) -> Result<Edit, Fail> {
     Ok(Edit::SetOpacity {
         id: ElementId(id),
         opacity: Opacity::new(500_000).ok_or("no opacity")?,
     })
 }
 
-pub fn add_timeline(id: u32) -> Result<Edit, Fail> {
+fn add_timeline(id: u32) -> Result<Edit, Fail> {
     Ok(Edit::AddTimeline {
         id: TimelineId(id),
         timeline: Timeline::new(0).ok_or("no timeline")?,
@@ -70,12 +109,8 @@ fn curve_of(rt: &impl Abort, alloc: Global, property: Property) -> Result<CurveO
     }
 }
 
-/// A model, its group, its element and its timeline, by their numbers.
-#[derive(Clone, Copy)]
-pub struct Names(pub u32, pub u32, pub u32, pub u32);
-
-/// Adds a model of one curve of this property, with no given start.
-pub fn add_model(
+// Adds a model of one curve of this property, with no given start.
+fn add_model(
     rt: &impl Abort,
     alloc: Global,
     names: Names,
