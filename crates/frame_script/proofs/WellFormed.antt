@@ -3,7 +3,7 @@ use Rattle.std.proofs.Common.{◌≡◌, ℕ, zero, suc, ◌+◌, ◌^◌, true,
 use Rattle.std.specs.Prelude.{filter_map, fold}
 use Rattle.std.proofs.lemmas.Bool.{le-leb}
 use Rattle.anim_names.specs.declared.lane.Lane.TheVariants.{Compositor}
-use Rattle.tree_commit.specs.declared.step.CompositorStep.TheVariants.{Tick}
+use Rattle.tree_commit.specs.declared.runs.compositor_step.CompositorStep.TheVariants.{Tick}
 use Rattle.tree_commit.specs.Edits.{edit_refusal, model_refusal, book_after}
 use Rattle.tree_commit.specs.Scripts.{IsWellFormed, is_main, is_compositor, are_allowed, time_of_tick, ticks_of, never_fall_from, are_at_most}
 use Rattle.frame_script.specs.Animations.{Animation, IsAnimation, NeverFall, compositor_steps, script_of}

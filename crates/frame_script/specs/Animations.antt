@@ -8,8 +8,8 @@ use Rattle.value_blend.specs.Blends.{IsOpacity}
 use Rattle.transform_ops.specs.declared.op.TransformOp.{TransformOp}
 use Rattle.transform_ops.specs.Lists.{IsTransform}
 use Rattle.keyframe_model.specs.Models.{Spec, PropertyCurve, curve_duration, model_parts}
-use Rattle.tree_commit.specs.declared.step.CompositorStep.{CompositorStep}
-use Rattle.tree_commit.specs.declared.step.CompositorStep.TheVariants.{Pull, Activate, Tick}
+use Rattle.tree_commit.specs.declared.runs.compositor_step.CompositorStep.{CompositorStep}
+use Rattle.tree_commit.specs.declared.runs.compositor_step.CompositorStep.TheVariants.{Pull, Activate, Tick}
 use Rattle.tree_commit.specs.Edits.{AddElement, AddModel, AddTimeline}
 use Rattle.tree_commit.specs.Scripts.{StepOfMain, EditStep, CommitStep, ScriptLists}
 

@@ -4,9 +4,9 @@ use Rattle.std.specs.declared.alloc.Global.{Global}
 use Rattle.std.specs.declared.sync.Arc.{Arc}
 use Rattle.keyframe_model.specs.Models.{Spec}
 use Rattle.tree_commit.specs.declared.base.Base.{Base}
-use Rattle.tree_commit.specs.declared.fault.EditFault.{EditFault}
-use Rattle.tree_commit.specs.declared.fault.EditFault.TheVariants.{Refused, NoMemory}
-use Rattle.tree_commit.specs.declared.refusal.EditRefusal.{EditRefusal}
+use Rattle.tree_commit.specs.declared.edits.fault.EditFault.{EditFault}
+use Rattle.tree_commit.specs.declared.edits.fault.EditFault.TheVariants.{Refused, NoMemory}
+use Rattle.tree_commit.specs.declared.edits.refusal.EditRefusal.{EditRefusal}
 use Rattle.tree_commit.specs.Trees.{TreeLists, Committed, empty_tree, has_model}
 use Rattle.tree_commit.specs.Edits.{Change, AddElement, RemoveElement, SetOpacity, SetTransform, AddTimeline, AddModel, RemoveModel, Book, new_book, is_in, tree_after, book_after, book_after_commit}
 use Rattle.tree_commit.specs.Tables.{tree_of, HasAllTimelines}
