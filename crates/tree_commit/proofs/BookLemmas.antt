@@ -1,5 +1,5 @@
 -- Lemmas on what the code keeps of the edits so far.
-use Rattle.std.proofs.Common.{◌≡◌, ℕ, Bool, true, false, not, ◌||◌, List, [], ◌∷◌, ◌++◌, Option, Some, None, option_map, ◌==◌, find, Result, Ok, Err, IsOk, OnOk, rules, sym, ◌∙◌, cond, refl, ap, nat_eq, if◌then◌else◌}
+use Rattle.std.proofs.Common.{◌≡◌, ℕ, Bool, true, false, not, ◌||◌, List, [], ◌∷◌, ◌++◌, Option, Some, None, option_map, ◌==◌, find, Result, Ok, Err, IsOk, OnOk, OnErr, rules, sym, ◌∙◌, cond, refl, ap, nat_eq, if◌then◌else◌}
 use Rattle.std.specs.List.{list_any}
 use Rattle.std.specs.Map.{lookup, set_value}
 use Rattle.indexmap.specs.IndexMap.{insert_entry}
@@ -125,3 +125,8 @@ edit_refusal-parts book model id group element timeline start property parts =
 pub from_ok : {T E P : Type 0} (r : Result T E) → IsOk r → OnOk r P → P
 from_ok (Ok x) ok h = h
 from_ok (Err e) ok h = absurd (search rules)
+
+-- what is so anyway is so at Err
+pub on_err : {T E P : Type 0} (r : Result T E) → P → OnErr r P
+on_err (Ok x) h = tt
+on_err (Err e) h = h
