@@ -1,4 +1,5 @@
-ghost use Rattle.std.specs.Prelude.{◌≡◌, ◌≤◌, ◌<◌, ◌^◌, false, IfOk, IsOk};
+ghost use Rattle.std.specs.Prelude.{◌≡◌, ◌≤◌, ◌<◌, false, IfOk, IsOk};
+ghost use Rattle.micro_time.specs.declared.TheConstants.{LONGEST_DURATION};
 
 use easing_fixed::{Easing, ONE};
 use std::alloc::AllocError;
@@ -21,7 +22,7 @@ impl<V> Key<V> {
     pub(crate) fn progress_to(&self, next: &Key<V>, time: u64) -> u32
         requires begun { self.now.time ≤ time }
         requires not_over { time < next.now.time }
-        requires short { next.now.time ≤ 2 ^ 36 }
+        requires short { next.now.time ≤ LONGEST_DURATION }
         ensures value { result ≡ progress_between self.now next.now time }
         ensures within { result ≤ ONE }
     {
@@ -37,7 +38,7 @@ impl<V: Blend> Key<V> {
     pub(crate) fn value_before(&self, next: &Key<V>, time: u64) -> Result<V, AllocError>
         requires begun { self.now.time ≤ time }
         requires not_over { time < next.now.time }
-        requires short { next.now.time ≤ 2 ^ 36 }
+        requires short { next.now.time ≤ LONGEST_DURATION }
         ensures value { IfOk result (λ value. value
             ≡ V.blended self.now.value next.now.value (eased self.now.easing (progress_between self.now next.now time))) }
         ensures without_memory { V.TAKES_MEMORY ≡ false → IsOk result }

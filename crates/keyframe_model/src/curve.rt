@@ -1,5 +1,5 @@
 ghost use Rattle.std.specs.Prelude.{◌≡◌, ◌≤◌, Some, IfOk, IsOk};
-ghost use Rattle.keyframe_model.specs.Models.{property_of_curve, curve_duration, value_on};
+ghost use Rattle.keyframe_model.specs.Models.{property_of_curve, IsPropertyCurve, curve_duration, value_on};
 ghost use Rattle.keyframe_model.specs.Views.{curve_of, value_of};
 
 use anim_names::Property;
@@ -30,6 +30,20 @@ impl CurveOf {
         match self {
             CurveOf::Opacity(_) => Property::Opacity,
             CurveOf::Transform(_) => Property::Transform,
+        }
+    }
+
+    /// Does nothing. What is true of every curve, its clause says of this one.
+    pub fn vouch(&self)
+        ensures { IsPropertyCurve (curve_of self.now) }
+    {
+        match self {
+            CurveOf::Opacity(curve) => {
+                let _ = curve.duration();
+            }
+            CurveOf::Transform(curve) => {
+                let _ = curve.duration();
+            }
         }
     }
 

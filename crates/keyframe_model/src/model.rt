@@ -1,4 +1,6 @@
-ghost use Rattle.std.specs.Prelude.{◌≡◌, ◌≤◌, ◌^◌, ◌↔◌, unsigned_abs, IfSome, IfOk, IsNone, IsOk, None, option_map};
+ghost use Rattle.std.specs.Prelude.{◌≡◌, ◌≤◌, ◌↔◌, unsigned_abs, IfSome, IfOk, IsNone, IsOk, None, option_map};
+ghost use Rattle.anim_timeline.specs.declared.TheConstants.{LAST_TIME};
+ghost use Rattle.micro_time.specs.declared.TheConstants.{LARGEST_LOCAL};
 ghost use Rattle.micro_time.specs.Timings.{is_done, curve_time};
 
 use crate::{CurveOf, Value};
@@ -54,9 +56,11 @@ impl ModelSpec {
         curve: CurveOf,
     ) -> ModelSpec
         requires one_duration { timing.duration ≡ curve_duration (curve_of curve) }
-        requires start_within { IfSome start (λ start. start ≤ 2 ^ 50) }
+        requires start_within { IfSome start (λ start. start ≤ LAST_TIME) }
         ensures { result ≡ model_parts id group element timeline start timing policy (curve_of curve) }
     {
+        let _ = (id.0, group.0, element.0, timeline.0, timing.duration());
+        curve.vouch();
         ModelSpec {
             id,
             group,
@@ -73,8 +77,8 @@ impl ModelSpec {
     pub fn id(&self) -> ModelId
         ensures value { result ≡ self.now.id }
 
-        // What holds of every model: `new` would take its parts.
-        ensures kept { IsModel self.now }
+        // So is every model.
+        ensures in_range { IsModel self.now }
     {
         self.id
     }
@@ -137,7 +141,7 @@ impl ModelSpec {
 
     /// Whether its iterations are over at a local time in microseconds.
     pub fn is_done(&self, local: i64) -> bool
-        requires { unsigned_abs local ≤ 2 ^ 52 }
+        requires { unsigned_abs local ≤ LARGEST_LOCAL }
         ensures { result ≡ is_done self.now.timing local }
     {
         self.timing.is_done(local)
@@ -147,7 +151,7 @@ impl ModelSpec {
     /// before or after the iterations without the fill for it.
     #[tactic(auto, unfolding(crate::specs::Models::model_value))]
     pub fn value(&self, local: i64) -> Result<Option<Value>, AllocError>
-        requires { unsigned_abs local ≤ 2 ^ 52 }
+        requires { unsigned_abs local ≤ LARGEST_LOCAL }
         ensures value { IfOk result (λ value. option_map value_of value ≡ model_value self.now local) }
         ensures none { IfOk result (λ value. IsNone value ↔ (curve_time self.now.timing local ≡ None)) }
         ensures without_memory { property_of self.now ≡ Property.Opacity → IsOk result }

@@ -2,8 +2,9 @@
 --
 -- Times are in microseconds; iterations, the iteration start and the rate are in thousandths. So a length of
 -- iterations, which is a duration times iterations, is in thousandths of a microsecond.
-use Rattle.std.specs.Prelude.{ℕ, ◌+◌, ◌-◌, ◌*◌, ◌/◌, ◌%◌, ◌^◌, ℤ, ◌+ℤ◌, unsigned_abs, Bool, true, false, not, ◌&&◌, ◌==◌, nat_lt, nat_le, if◌then◌else◌, Option, Some, None}
+use Rattle.std.specs.Prelude.{◌≡◌, ℕ, ◌+◌, ◌-◌, ◌*◌, ◌/◌, ◌%◌, ℤ, ◌+ℤ◌, unsigned_abs, Bool, true, false, not, ◌&&◌, ◌==◌, nat_lt, nat_le, if◌then◌else◌, Option, Some, None}
 use Rattle.std.specs.Int.{is_negative}
+use Rattle.micro_time.specs.declared.TheConstants.{LONGEST_DURATION, LARGEST_OFFSET, MOST_ITERATIONS, LAST_ITERATION_START, LARGEST_RATE}
 use Rattle.micro_time.specs.declared.direction.Direction.{Direction}
 use Rattle.micro_time.specs.declared.direction.Direction.TheVariants.{Normal, Reverse, Alternate, AlternateReverse}
 use Rattle.micro_time.specs.declared.fault.TimingFault.{TimingFault}
@@ -41,20 +42,20 @@ timing_parts duration offset iterations iteration_start direction fill rate = re
 -- ---- their ranges
 
 abbrev pub is_duration : ℕ → Bool
-is_duration duration = nat_le 1 duration && nat_le duration (2 ^ 36)
+is_duration duration = nat_le 1 duration && nat_le duration LONGEST_DURATION
 
 abbrev pub is_offset : ℤ → Bool
-is_offset offset = nat_le (unsigned_abs offset) (2 ^ 40)
+is_offset offset = nat_le (unsigned_abs offset) LARGEST_OFFSET
 
 abbrev pub are_iterations : Iterations → Bool
-are_iterations (Finite count) = nat_le count (10 ^ 9)
+are_iterations (Finite count) = nat_le count MOST_ITERATIONS
 are_iterations Infinite = true
 
 abbrev pub is_iteration_start : ℕ → Bool
-is_iteration_start iteration_start = nat_le iteration_start (10 ^ 6)
+is_iteration_start iteration_start = nat_le iteration_start LAST_ITERATION_START
 
 abbrev pub is_rate : ℤ → Bool
-is_rate rate = nat_le 1 (unsigned_abs rate) && nat_le (unsigned_abs rate) (10 ^ 6)
+is_rate rate = nat_le 1 (unsigned_abs rate) && nat_le (unsigned_abs rate) LARGEST_RATE
 
 abbrev pub is_finite : Iterations → Bool
 is_finite (Finite count) = true
@@ -70,6 +71,10 @@ refusal t =
     if not (is_rate t.rate) then Some (OutOfRange field.Rate) else
     if not (is_finite t.iterations) && is_negative t.rate then Some InfiniteReverse else
     None
+
+-- what may be a timing
+abbrev pub IsTiming : TimingParts → Type 0
+IsTiming t = refusal t ≡ None
 
 -- ---- the phase
 

@@ -1,10 +1,12 @@
-ghost use Rattle.std.specs.Prelude.{◌≡◌, ◌+◌, ◌*◌, ◌^◌, ◌<◌, ◌≤◌, unsigned_abs, IfOk, IfSome, None};
+ghost use Rattle.std.specs.Prelude.{◌≡◌, ◌+◌, ◌*◌, ◌^◌, ◌<◌, ◌≤◌, unsigned_abs, IfOk, IfSome};
 ghost use Rattle.std.specs.Result.{result_err};
-ghost use Rattle.micro_time.specs.Timings.{timing_parts, refusal, phase, is_done, curve_time};
+ghost use Rattle.micro_time.specs.declared.TheConstants.{LARGEST_LOCAL};
+ghost use Rattle.micro_time.specs.Timings.{timing_parts, refusal, IsTiming, phase, is_done, curve_time};
 ghost use Rattle.micro_time.specs.Timings.{elapsed, covered, total, progress_in, skipped, place_in};
 ghost use Rattle.micro_time.specs.Timings.{one_iteration, is_last_end, iteration_at, part_at, time_at};
 
 use crate::{Direction, Fill, Iterations, Phase, TimingFault, TimingField};
+use crate::{LARGEST_OFFSET, LARGEST_RATE, LAST_ITERATION_START, LONGEST_DURATION, MOST_ITERATIONS};
 use std::marker::Model;
 
 /// When an animation runs, and in which order it runs through its curve.
@@ -24,8 +26,7 @@ pub struct Timing {
 }
 
 impl Model for Timing {
-    ghost use Rattle.std.specs.Prelude.{◌≡◌, None};
-    ghost use Rattle.micro_time.specs.Timings.{TimingParts, timing_parts, refusal};
+    ghost use Rattle.micro_time.specs.Timings.{TimingParts, timing_parts, IsTiming};
 
     ghost Value = { TimingParts };
 
@@ -33,7 +34,7 @@ impl Model for Timing {
         timing_parts t.duration t.offset t.iterations t.iteration_start t.direction t.fill t.rate };
 
     ghost invariant = { λ t.
-        refusal (timing_parts t.duration t.offset t.iterations t.iteration_start t.direction t.fill t.rate) ≡ None };
+        IsTiming (timing_parts t.duration t.offset t.iterations t.iteration_start t.direction t.fill t.rate) };
 
     ghost inverse = { λ t. record {
       duration = t.duration;
@@ -63,21 +64,21 @@ impl Timing {
         ensures parts { IfOk result (λ timing.
             timing ≡ timing_parts duration offset iterations iteration_start direction fill rate) }
     {
-        if duration == 0 || duration > 1 << 36 {
+        if duration == 0 || duration > LONGEST_DURATION {
             return Err(TimingFault::OutOfRange(TimingField::Duration));
         }
-        if offset.unsigned_abs() > 1 << 40 {
+        if offset.unsigned_abs() > LARGEST_OFFSET {
             return Err(TimingFault::OutOfRange(TimingField::Offset));
         }
         if let Iterations::Finite(count) = iterations {
-            if count > 1_000_000_000 {
+            if count > MOST_ITERATIONS {
                 return Err(TimingFault::OutOfRange(TimingField::Iterations));
             }
         }
-        if iteration_start > 1_000_000 {
+        if iteration_start > LAST_ITERATION_START {
             return Err(TimingFault::OutOfRange(TimingField::IterationStart));
         }
-        if rate == 0 || rate.unsigned_abs() > 1_000_000 {
+        if rate == 0 || rate.unsigned_abs() > LARGEST_RATE {
             return Err(TimingFault::OutOfRange(TimingField::Rate));
         }
         if iterations == Iterations::Infinite && rate < 0 {
@@ -99,7 +100,7 @@ impl Timing {
         ensures value { result ≡ self.now.duration }
 
         // What holds of every timing: `new` would take its parts.
-        ensures in_range { refusal self.now ≡ None }
+        ensures in_range { IsTiming self.now }
     {
         self.duration
     }
@@ -149,7 +150,7 @@ impl Timing {
     /// Whether the animation is yet to come, runs or is over at a local time in microseconds.
     #[tactic(auto, unfolding(crate::specs::Timings::phase))]
     pub fn phase(&self, local: i64) -> Phase
-        requires { unsigned_abs local ≤ 2 ^ 52 }
+        requires { unsigned_abs local ≤ LARGEST_LOCAL }
         ensures { result ≡ phase self.now local }
     {
         if self.elapsed(local) < 0 {
@@ -164,7 +165,7 @@ impl Timing {
     /// Whether the iterations are over at a local time in microseconds.
     #[tactic(auto, unfolding(crate::specs::Timings::is_done))]
     pub fn is_done(&self, local: i64) -> bool
-        requires { unsigned_abs local ≤ 2 ^ 52 }
+        requires { unsigned_abs local ≤ LARGEST_LOCAL }
         ensures { result ≡ is_done self.now local }
     {
         self.phase(local) == Phase::After
@@ -174,7 +175,7 @@ impl Timing {
     /// after the iterations without the fill for it.
     #[tactic(auto, unfolding(crate::specs::Timings::curve_time))]
     pub fn curve_time(&self, local: i64) -> Option<u64>
-        requires { unsigned_abs local ≤ 2 ^ 52 }
+        requires { unsigned_abs local ≤ LARGEST_LOCAL }
         ensures value { result ≡ curve_time self.now local }
         ensures within { IfSome result (λ time. time ≤ self.now.duration) }
     {
@@ -188,16 +189,16 @@ impl Timing {
 
     // How long the local time is past the beginning of the iterations.
     fn elapsed(&self, local: i64) -> i64
-        requires { unsigned_abs local ≤ 2 ^ 52 }
+        requires { unsigned_abs local ≤ LARGEST_LOCAL }
         ensures value { result ≡ elapsed self.now local }
-        ensures size { unsigned_abs result ≤ 2 ^ 52 + 2 ^ 40 }
+        ensures size { unsigned_abs result ≤ LARGEST_LOCAL + LARGEST_OFFSET }
     {
         local + self.offset
     }
 
     // What length of iterations so much time covers at this rate. Lengths are in thousandths of a microsecond.
     fn covered(&self, local: i64) -> u128
-        requires { unsigned_abs local ≤ 2 ^ 52 }
+        requires { unsigned_abs local ≤ LARGEST_LOCAL }
         ensures value { result ≡ covered self.now local }
         ensures size { result < 2 ^ 72 }
     {
@@ -207,7 +208,7 @@ impl Timing {
     // How fast it runs, whichever way.
     fn speed(&self) -> u32
         ensures value { result ≡ unsigned_abs self.now.rate }
-        ensures size { result ≤ 10 ^ 6 }
+        ensures size { result ≤ LARGEST_RATE }
     {
         self.rate.unsigned_abs()
     }
@@ -225,7 +226,7 @@ impl Timing {
 
     // What length of iterations is over.
     fn progress(&self, phase: Phase, local: i64) -> u128
-        requires { unsigned_abs local ≤ 2 ^ 52 }
+        requires { unsigned_abs local ≤ LARGEST_LOCAL }
         ensures value { result ≡ progress_in phase self.now local }
         ensures size { result < 2 ^ 72 }
     {
@@ -246,7 +247,7 @@ impl Timing {
 
     // The place in the iterations, counted from the beginning of iteration 0.
     fn place(&self, phase: Phase, local: i64) -> u128
-        requires { unsigned_abs local ≤ 2 ^ 52 }
+        requires { unsigned_abs local ≤ LARGEST_LOCAL }
         ensures value { result ≡ place_in phase self.now local }
         ensures size { result < 2 ^ 73 }
     {

@@ -2,20 +2,21 @@
 use Rattle.std.specs.Prelude.{◌≡◌, ℕ, ◌+◌, ◌/◌, ◌≤◌, nat_lt, not, if◌then◌else◌, ℤ, pos, int_lt, List, [], ◌∷◌, map, length, Option, Some, None}
 use Rattle.std.specs.List.{AllByRecursion, list_all}
 use Rattle.value_blend.specs.declared.TheConstants.{ONE}
+use Rattle.transform_ops.specs.declared.TheConstants.{MOST_OPERATIONS}
 use Rattle.transform_ops.specs.declared.fault.ListFault.{ListFault}
 use Rattle.transform_ops.specs.declared.fault.ListFault.TheVariants.{TooMany, OutOfRange}
 use Rattle.transform_ops.specs.declared.op.TransformOp.{TransformOp}
 use Rattle.transform_ops.specs.Operations.{matches, neutral_of, blend_operations, IsNeutral, IsOperation, is_operation}
 
 -- what may be the list of a transform
-pub record IsTransform (ops : List TransformOp) : Type 0 where
-  pub short : length ops ≤ 8
+pub record IsList (ops : List TransformOp) : Type 0 where
+  pub short : length ops ≤ MOST_OPERATIONS
   pub within : AllByRecursion IsOperation ops
 
 -- why the operations make no list
 abbrev pub list_refusal : List TransformOp → Option ListFault
 list_refusal ops =
-    if nat_lt 8 (length ops) then Some TooMany else
+    if nat_lt MOST_OPERATIONS (length ops) then Some TooMany else
     if not (list_all is_operation ops) then Some OutOfRange else
     None
 
