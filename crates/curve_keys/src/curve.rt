@@ -19,7 +19,7 @@ const BEGIN: u64 = 0;
 ///
 /// The curve's own easing bends the time before a value is looked up. Contracts see a curve as its keys and its
 /// easing; `curve_value` of them is the value at a time.
-#[derive(Debug, Drop)]
+#[derive(Debug)]
 pub struct Curve<V: Blend> {
     keys: Vec<Key<V>>,
     easing: Easing,
@@ -36,6 +36,16 @@ impl<V: Blend> Model for Curve<V> {
 
     ghost invariant = { λ c.
         IsCurve V.is_value (keyframes c.keys.items c.easing) × (c.duration ≡ last_time 0 c.keys.items) };
+}
+
+impl<V: Blend + Drop> Drop for Curve<V> {
+    fn drop(self) {
+        let Curve {
+            keys: _keys,
+            easing: _,
+            duration: _,
+        } = self;
+    }
 }
 
 impl<V: Blend + Drop> Curve<V> {
@@ -97,7 +107,7 @@ impl<V: Blend> Curve<V> {
         self.keys.len()
     }
 
-    /// The key at a place, which counts from 0.
+    /// The key of this index, which counts from 0.
     pub fn key(&self, i: usize) -> &Key<V>
         requires { i < length self.now.keys }
         ensures { slice_get self.now.keys i ≡ Some result.now }

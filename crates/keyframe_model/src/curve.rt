@@ -10,17 +10,35 @@ use transform_ops::TransformList;
 use value_blend::Opacity;
 
 /// A curve of one of the properties.
-#[derive(Debug, Drop)]
+#[derive(Debug)]
 pub enum CurveOf {
     Opacity(Curve<Opacity>),
     Transform(Curve<TransformList>),
 }
 
 /// A value of one of the properties.
-#[derive(Debug, Drop)]
+#[derive(Debug)]
 pub enum Value {
     Opacity(Opacity),
     Transform(TransformList),
+}
+
+impl Drop for CurveOf {
+    fn drop(self) {
+        match self {
+            CurveOf::Opacity(_curve) => {}
+            CurveOf::Transform(_curve) => {}
+        }
+    }
+}
+
+impl Drop for Value {
+    fn drop(self) {
+        match self {
+            Value::Opacity(_) => {}
+            Value::Transform(_list) => {}
+        }
+    }
 }
 
 impl CurveOf {

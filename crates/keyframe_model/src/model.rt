@@ -14,7 +14,7 @@ use std::marker::Model;
 /// A keyframe model: a curve of one property of one element, when it runs, and what becomes of it once it ended.
 ///
 /// It belongs to a group, whose models start and finish together, and never changes. Contracts see it as plain data.
-#[derive(Debug, Drop)]
+#[derive(Debug)]
 pub struct ModelSpec {
     id: ModelId,
     group: GroupId,
@@ -38,6 +38,21 @@ impl Model for ModelSpec {
 
     ghost invariant = { λ m.
         IsModel (model_parts m.id m.group m.element m.timeline m.start m.timing m.policy (curve_of m.curve)) };
+}
+
+impl Drop for ModelSpec {
+    fn drop(self) {
+        let ModelSpec {
+            id: _,
+            group: _,
+            element: _,
+            timeline: _,
+            start: _,
+            timing: _,
+            policy: _,
+            curve: _curve,
+        } = self;
+    }
 }
 
 impl ModelSpec {
