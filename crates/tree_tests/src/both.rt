@@ -18,7 +18,7 @@ pub enum Edited {
     SetOpacity(u32),
     SetTransform(u32),
     AddTimeline(u32),
-    AddModel(Names, Option<u64>, Property),
+    AddModel(Names, Option<u32>, Property),
     RemoveModel(u32),
     /// A commit, which is no edit.
     Commit,

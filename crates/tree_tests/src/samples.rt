@@ -1,5 +1,8 @@
 //! What the tests are made of: values, models, edits and commits, by few numbers each.
 
+ghost use Rattle.std.specs.Prelude.{◌≤◌, IfSome};
+ghost use Rattle.anim_timeline.specs.declared.TheConstants.{LAST_TIME};
+
 use anim_delegate::Policy;
 use anim_names::{ElementId, GroupId, ModelId, Property, TimelineId};
 use anim_timeline::Timeline;
@@ -73,12 +76,22 @@ fn curve_of(rt: &impl Abort, alloc: Global, property: Property) -> Result<CurveO
     }
 }
 
+// A given start, which a test writes as a small number.
+fn given(start: Option<u32>) -> Option<u64>
+    ensures { IfSome result (λ start. start ≤ LAST_TIME) }
+{
+    match start {
+        None => None,
+        Some(start) => Some(u64::from(start)),
+    }
+}
+
 /// A model of this property that runs once, with this given start or none.
 pub fn model(
     rt: &impl Abort,
     alloc: Global,
     names: Names,
-    start: Option<u64>,
+    start: Option<u32>,
     property: Property,
 ) -> Result<Arc<ModelSpec>, Fail> {
     let curve = curve_of(rt, alloc, property)?;
@@ -88,6 +101,7 @@ pub fn model(
     let (id, group) = (ModelId(names.0), GroupId(names.1));
     let (element, timeline) = (ElementId(names.2), TimelineId(names.3));
     let policy = Policy::Auto;
+    let start = given(start);
     let spec = ModelSpec::new(id, group, element, timeline, start, timing, policy, curve);
     Ok(Arc::new(alloc, spec)?)
 }
