@@ -17,7 +17,7 @@ pub enum CurveOf {
 }
 
 /// A value of one of the properties.
-#[derive(Debug)]
+#[derive(Debug, Drop)]
 pub enum Value {
     Opacity(Opacity),
     Transform(TransformList),
@@ -28,15 +28,6 @@ impl Drop for CurveOf {
         match self {
             CurveOf::Opacity(_curve) => {}
             CurveOf::Transform(_curve) => {}
-        }
-    }
-}
-
-impl Drop for Value {
-    fn drop(self) {
-        match self {
-            Value::Opacity(_) => {}
-            Value::Transform(_list) => {}
         }
     }
 }

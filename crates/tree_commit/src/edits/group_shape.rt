@@ -93,7 +93,8 @@ impl GroupShape {
     }
 }
 
-fn is_same(property: Property, other: Property) -> bool
+// Whether the two are one property.
+pub(crate) fn is_same(property: Property, other: Property) -> bool
     ensures { result ≡ same_property property other }
 {
     property == other
