@@ -90,10 +90,14 @@ row_of tree shown tick element = record {
   transform = transform_or element.look.transform (animated_value tree shown tick element.id Transform);
 }
 
--- The frame of a tick, over the marks up to the tick's own.
-unfoldable pub frame_at : Committed → List Mark → ℕ → DrawnFrame
-frame_at active marks tick = record {
+-- the frame of a tick, by what is shown of each model
+abbrev pub frame_by : Committed → (ℕ → Option Shown) → ℕ → DrawnFrame
+frame_by active shown tick = record {
   time = tick;
   commit = active.number;
-  rows = map (row_of active.tree (shown_by marks) tick) active.tree.elements;
+  rows = map (row_of active.tree shown tick) active.tree.elements;
 }
+
+-- The frame of a tick, over the marks up to the tick's own.
+unfoldable pub frame_at : Committed → List Mark → ℕ → DrawnFrame
+frame_at active marks tick = frame_by active (shown_by marks) tick

@@ -1,5 +1,4 @@
 -- What the parts of a script may be: the numbers and lists that the types of the values take.
-use Rattle.std.specs.Prelude.{ℕ}
 use Rattle.anim_timeline.specs.Timelines.{IsTime}
 use Rattle.value_blend.specs.Blends.{IsOpacity}
 use Rattle.transform_ops.specs.Lists.{IsList}

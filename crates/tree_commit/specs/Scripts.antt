@@ -1,5 +1,5 @@
 -- Scripts as plain data, and which of them are well formed.
-use Rattle.std.specs.Prelude.{◌≡◌, ℕ, ◌*◌, ◌≤◌, nat_lt, nat_le, Bool, true, false, ◌&&◌, IsTrue, is_none, List, [], ◌∷◌, length, filter_map, fold, Option, Some, None}
+use Rattle.std.specs.Prelude.{◌≡◌, ℕ, ◌*◌, ◌≤◌, nat_lt, nat_le, Bool, true, ◌&&◌, IsTrue, is_none, List, [], ◌∷◌, length, filter_map, fold, Option, Some, None}
 use Rattle.std.specs.List.{AllByRecursion}
 use Rattle.anim_names.specs.declared.lane.Lane.{Lane}
 use Rattle.anim_names.specs.declared.lane.Lane.TheVariants.{Main, Compositor}

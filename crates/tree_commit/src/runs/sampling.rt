@@ -1,6 +1,6 @@
 //! What one element shows at a tick.
 
-ghost use Rattle.std.specs.Prelude.{◌≡◌, ◌<◌, ◌≤◌, unsigned_abs, IsTrue, IfOk, IfSome, length, map, option_map, slice_get, Some};
+ghost use Rattle.std.specs.Prelude.{◌≡◌, ◌<◌, ◌≤◌, ◌-ℤ◌, unsigned_abs, IsTrue, IfOk, IfSome, length, map, option_map, slice_get, Some};
 ghost use Rattle.anim_timeline.specs.Timelines.{IsTime};
 ghost use Rattle.keyframe_model.specs.Models.{model_value};
 ghost use Rattle.keyframe_model.specs.Views.{value_of};
@@ -53,18 +53,18 @@ pub fn sample_element<S: StartTable, E: EasingFunction>(
     )?;
     Ok(FrameRow {
         element,
-        opacity: opacity_shown(base.opacity, opacity),
+        opacity: opacity_shown(base.opacity, &opacity),
         transform: transform_shown(&base.transform, transform)?,
     })
 }
 
 // The animated opacity, else the element's own.
-fn opacity_shown(own: Opacity, value: Option<Value>) -> Opacity
-    ensures { result ≡ opacity_or own (option_map value_of value) }
+fn opacity_shown(own: Opacity, value: &Option<Value>) -> Opacity
+    ensures { result ≡ opacity_or own (option_map value_of value.now) }
 {
     match value {
-        Some(Value::Opacity(opacity)) => opacity,
-        Some(Value::Transform(_list)) => own,
+        Some(Value::Opacity(opacity)) => *opacity,
+        Some(Value::Transform(_)) => own,
         None => own,
     }
 }
@@ -111,6 +111,7 @@ fn value_shown<S: StartTable, E: EasingFunction>(
 }
 
 // A property of an element.
+#[derive(Clone, Copy)]
 struct Target {
     element: ElementId,
     property: Property,
@@ -186,7 +187,15 @@ fn local_time(commit: &Commit, model: &ModelSpec, time: u64, start: i64) -> i64
     ensures { result ≡ local_time commit.now.tree time model.now start }
 {
     let timeline = commit.timeline(model.timeline()).unwrap();
-    timeline.time_of(time) - start
+    since(timeline.time_of(time), start)
+}
+
+// How long after a start a time of its timeline is; negative before it.
+fn since(time: i64, start: i64) -> i64
+    requires { unsigned_abs (time -ℤ start) ≤ LARGEST_LOCAL }
+    ensures { result ≡ time -ℤ start }
+{
+    time - start
 }
 
 // The value in what counts.
