@@ -1,6 +1,5 @@
-use Rattle.std.proofs.Common.{◌≡◌, ℕ, ◌+◌, ◌-◌, ◌*◌, ◌∙◌, ap, arith}
+use Rattle.std.proofs.Common.{◌≡◌, ℕ, ◌+◌, ◌-◌, ◌*◌, arith}
 use Rattle.easing_fixed.specs.declared.TheConstants.{ONE, END}
-use Rattle.easing_fixed.specs.Cubics.{across}
 use Rattle.easing_fixed.proofs.curve.ascent.Goals as goal
 
 weights-with : (x1 x2 u s : ℕ) →

@@ -1,5 +1,5 @@
 use Rattle.std.proofs.Common.{◌≡◌, ◌*◌, ◌≤◌, unsigned_abs, arith}
-use Rattle.std.proofs.lemmas.Int.{ints, to_z-of_z}
+use Rattle.std.proofs.lemmas.Int.{ints}
 use Rattle.easing_fixed.specs.declared.TheConstants.{ONE}
 use Rattle.easing_fixed.specs.Easings.{eased}
 use Rattle.easing_fixed.proofs.Sizes.{eased-size}
