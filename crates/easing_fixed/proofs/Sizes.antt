@@ -1,5 +1,5 @@
 -- What an easing gives leaves the range of the progress by no more than ten times that.
-use Rattle.std.proofs.Common.{◌≡◌, ℕ, suc, ◌+◌, ◌*◌, ◌/◌, ◌≤◌, ℤ, pos, negsuc, ◌+ℤ◌, ◌*ℤ◌, unsigned_abs, Bool, true, false, not, ◌&&◌, if◌then◌else◌, Some, None, min, refl, arith}
+use Rattle.std.proofs.Common.{◌≡◌, ℕ, ◌+◌, ◌*◌, ◌/◌, ◌≤◌, ℤ, pos, negsuc, ◌+ℤ◌, ◌*ℤ◌, unsigned_abs, Bool, true, false, not, ◌&&◌, if◌then◌else◌, Some, None, min, refl, arith}
 use Rattle.std.specs.Int.{int_div_euclid}
 use Rattle.std.proofs.Math.Nat.{mul-le-mul_left, div-le_of_le-mul}
 use Rattle.std.proofs.lemmas.Bool.Decides.{nat_tests}
