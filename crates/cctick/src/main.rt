@@ -12,27 +12,27 @@ use std::{env, io};
 fn main(rt: HostRuntime) -> ExitCode {
     let status = answer(&rt);
     if status == Status::Usage {
-        let _ = eprintln!(rt; "usage: cctick run | replay | gen N | load N");
+        let _ = eprintln!(rt; "usage: cctick replay");
     }
     ExitCode::from(status.number())
 }
 
 fn answer(rt: &HostRuntime) -> Status {
-    let words = match words_of(rt) {
-        Ok(words) => words,
+    let arguments = match arguments_of(rt) {
+        Ok(arguments) => arguments,
         Err(error) if error.kind() == ErrorKind::OutOfMemory => return Status::NoMemory,
         Err(_) => return Status::Usage,
     };
     let mut source = StdSource::new(rt.stdin());
     let mut sink = StdSink::new(rt.stdout());
-    command(rt, rt.alloc(), words.as_slice(), &mut source, &mut sink)
+    command(rt, rt.alloc(), arguments.as_slice(), &mut source, &mut sink)
 }
 
-/// The words after the program's name.
-fn words_of(rt: &HostRuntime) -> io::Result<Vec<String>> {
-    let mut words = Vec::new(rt.alloc());
-    for word in env::args(rt)?.skip(1) {
-        words.push(word)?;
+/// The arguments after the program's name. One that is not UTF-8 is an error.
+fn arguments_of(rt: &HostRuntime) -> io::Result<Vec<String>> {
+    let mut arguments = Vec::new(rt.alloc());
+    for argument in env::args(rt)?.skip(1) {
+        arguments.push(argument)?;
     }
-    Ok(words)
+    Ok(arguments)
 }
