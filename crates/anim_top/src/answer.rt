@@ -9,7 +9,7 @@ use frame_script::{Cause, ScriptFault, read_script};
 use std::alloc::{AllocError, Global};
 use word_machine::{print_report, replay};
 
-/// A status, and all that is written before the program ends with it.
+/// A status, and all that is written before the program ends with it. Writing the text is the caller's part.
 #[derive(Debug, Drop)]
 pub struct Answer {
     pub status: Status,

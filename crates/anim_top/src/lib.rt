@@ -1,7 +1,7 @@
-//! The program, over a source and a sink: what it answers to its words and to the bytes that it reads.
+//! The program, over a source and a sink: what it answers to its arguments and to the bytes that it reads.
 //!
 //! [`command`] is the call that the program makes. Its clauses say, status by status, when each answer comes,
-//! what was read and what was written, in the words of `specs/Answers.antt` and `specs/Outside.antt`.
+//! what was read and what was written, by the definitions of `specs/Answers.antt` and `specs/Outside.antt`.
 #![tactic(auto)]
 
 mod answer;
