@@ -1,9 +1,9 @@
-ghost use Rattle.std.specs.Prelude.{◌≡◌, ◌*◌, ◌^◌, ◌≤◌, pos, unsigned_abs, IsFalse, IfOk, MatchResult, None};
+ghost use Rattle.std.specs.Prelude.{◌≡◌, ◌*◌, ◌≤◌, pos, unsigned_abs, IsFalse, IfOk, MatchResult};
 ghost use Rattle.std.specs.Result.{result_err};
-ghost use Rattle.easing_fixed.specs.Cubics.{cubic_parts, cubic_refusal, is_x, is_y, cubic_value};
+ghost use Rattle.easing_fixed.specs.Cubics.{cubic_parts, cubic_refusal, IsCubic, is_x, is_y, cubic_value};
 
 use crate::curve::{self, UNIT};
-use crate::{EasingFault, ONE};
+use crate::{END, EasingFault, LARGEST_Y, ONE};
 use std::marker::Model;
 
 /// A cubic Bézier curve from (0, 0) to (1, 1) by its two control points, after CSS Easing Functions Level 1.
@@ -20,21 +20,21 @@ pub struct CubicShape {
 }
 
 impl Model for CubicShape {
-    ghost use Rattle.std.specs.Prelude.{◌≡◌, pos, unsigned_abs, None};
-    ghost use Rattle.easing_fixed.specs.Cubics.{CubicParts, cubic_parts, cubic_refusal};
+    ghost use Rattle.std.specs.Prelude.{pos, unsigned_abs};
+    ghost use Rattle.easing_fixed.specs.Cubics.{CubicParts, cubic_parts, IsCubic};
 
     ghost Value = { CubicParts };
 
     ghost view = { λ c. cubic_parts (pos c.x1) c.y1 (pos c.x2) c.y2 };
 
-    ghost invariant = { λ c. cubic_refusal (cubic_parts (pos c.x1) c.y1 (pos c.x2) c.y2) ≡ None };
+    ghost invariant = { λ c. IsCubic (cubic_parts (pos c.x1) c.y1 (pos c.x2) c.y2) };
 
     ghost inverse = { λ c. record { x1 = unsigned_abs c.x1; y1 = c.y1; x2 = unsigned_abs c.x2; y2 = c.y2 } };
 }
 
 impl CubicShape {
-    /// Makes a curve with the control points (x1, y1) and (x2, y2), in millionths: each x from 0 to 1,000,000, each
-    /// y from -10,000,000 to 10,000,000. The x's are judged first.
+    /// Makes a curve with the control points (x1, y1) and (x2, y2), in millionths: each x from 0 to [`END`], each y at
+    /// most [`LARGEST_Y`] in size. The x's are judged first.
     pub fn new(x1: i64, y1: i64, x2: i64, y2: i64) -> Result<CubicShape, EasingFault>
         ensures refused { result_err result ≡ cubic_refusal (cubic_parts x1 y1 x2 y2) }
         ensures parts { IfOk result (λ shape. shape ≡ cubic_parts x1 y1 x2 y2) }
@@ -48,7 +48,7 @@ impl CubicShape {
 
     // The curve with these control points.
     pub(crate) fn of(x1: u32, y1: i32, x2: u32, y2: i32) -> CubicShape
-        requires { cubic_refusal (cubic_parts (pos x1) y1 (pos x2) y2) ≡ None }
+        requires { IsCubic (cubic_parts (pos x1) y1 (pos x2) y2) }
         ensures { result ≡ cubic_parts (pos x1) y1 (pos x2) y2 }
     {
         CubicShape { x1, y1, x2, y2 }
@@ -58,8 +58,8 @@ impl CubicShape {
     pub fn x1(&self) -> i64
         ensures value { result ≡ self.now.x1 }
 
-        // What holds of every shape: `new` would take its parts.
-        ensures in_range { cubic_refusal self.now ≡ None }
+        // So are the parts of every shape.
+        ensures in_range { IsCubic self.now }
     {
         i64::from(self.x1)
     }
@@ -100,10 +100,10 @@ impl CubicShape {
 // The x of a control point.
 fn x_of(x: i64) -> Result<u32, EasingFault>
     ensures { MatchResult result
-        (λ n. (x ≡ pos n) × (n ≤ 10 ^ 6))
+        (λ n. (x ≡ pos n) × (n ≤ END))
         (λ fault. (fault ≡ EasingFault.XOutOfRange) × IsFalse (is_x x)) }
 {
-    if (0..=1_000_000).contains(&x) {
+    if (0..=i64::from(END)).contains(&x) {
         Ok(x as u32)
     } else {
         Err(EasingFault::XOutOfRange)
@@ -113,10 +113,10 @@ fn x_of(x: i64) -> Result<u32, EasingFault>
 // The y of a control point.
 fn y_of(y: i64) -> Result<i32, EasingFault>
     ensures { MatchResult result
-        (λ n. (y ≡ n) × (unsigned_abs n ≤ 10 ^ 7))
+        (λ n. (y ≡ n) × (unsigned_abs n ≤ LARGEST_Y))
         (λ fault. (fault ≡ EasingFault.YOutOfRange) × IsFalse (is_y y)) }
 {
-    if y.unsigned_abs() <= 10_000_000 {
+    if y.unsigned_abs() <= u64::from(LARGEST_Y) {
         Ok(y as i32)
     } else {
         Err(EasingFault::YOutOfRange)

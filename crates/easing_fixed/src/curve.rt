@@ -1,12 +1,10 @@
 //! Points of a cubic Bézier curve from (0, 0) to (1, 1), along which there are [`ONE`] steps.
 
-ghost use Rattle.std.specs.Prelude.{◌≡◌, ◌+◌, ◌*◌, ◌^◌, ◌≤◌, pos, ◌*ℤ◌, unsigned_abs};
+ghost use Rattle.std.specs.Prelude.{◌≡◌, ◌+◌, ◌*◌, ◌≤◌, pos, ◌*ℤ◌, unsigned_abs};
+ghost use Rattle.easing_fixed.specs.declared.TheConstants.{LARGEST_Y};
 ghost use Rattle.easing_fixed.specs.Cubics.{first_weight, second_weight, end_weight, across, height, place};
 
-use crate::ONE;
-
-// The control number of the curve's end, in millionths.
-const END: u32 = 1_000_000;
+use crate::{END, ONE};
 
 /// What 1 of a progress or a value is, in the unit of [`across`] and [`height`].
 pub(crate) const UNIT: u64 = ONE as u64 * ONE as u64 * END as u64;
@@ -24,11 +22,11 @@ pub(crate) fn across(x1: u32, x2: u32, s: u32) -> u128
 /// How high the curve is at step s, in the same unit.
 #[tactic(auto, using(crate::proofs::Rising::weights_le))]
 pub(crate) fn height(y1: i32, y2: i32, s: u32) -> i128
-    requires first { unsigned_abs y1 ≤ 10 ^ 7 }
-    requires second { unsigned_abs y2 ≤ 10 ^ 7 }
+    requires first { unsigned_abs y1 ≤ LARGEST_Y }
+    requires second { unsigned_abs y2 ≤ LARGEST_Y }
     requires step { s ≤ ONE }
     ensures value { result ≡ height ONE y1 y2 s }
-    ensures size { unsigned_abs result ≤ ONE * ONE * ONE * 10 ^ 7 }
+    ensures size { unsigned_abs result ≤ ONE * ONE * ONE * LARGEST_Y }
 {
     weighed(first_weight(s), y1)
         + weighed(second_weight(s), y2)
@@ -37,8 +35,8 @@ pub(crate) fn height(y1: i32, y2: i32, s: u32) -> i128
 
 /// The greatest step at which the curve is no farther across than p, by a bisection of at most 21 turns.
 pub(crate) fn place(x1: u32, x2: u32, p: u32) -> u32
-    requires first { x1 ≤ 10 ^ 6 }
-    requires second { x2 ≤ 10 ^ 6 }
+    requires first { x1 ≤ END }
+    requires second { x2 ≤ END }
     requires progress { p ≤ ONE }
     ensures value { result ≡ place x1 x2 p }
     ensures within { result ≤ ONE }
@@ -90,9 +88,9 @@ fn end_weight(s: u32) -> u64
 
 // What a control number adds at this weight.
 fn weighed(weight: u64, y: i32) -> i128
-    requires { unsigned_abs y ≤ 10 ^ 7 }
+    requires { unsigned_abs y ≤ LARGEST_Y }
     ensures value { result ≡ pos weight *ℤ y }
-    ensures size { unsigned_abs result ≤ weight * 10 ^ 7 }
+    ensures size { unsigned_abs result ≤ weight * LARGEST_Y }
 {
     i128::from(weight) * i128::from(y)
 }
