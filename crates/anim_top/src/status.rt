@@ -1,4 +1,4 @@
-use frame_script::Cause;
+use animation_script::Cause;
 
 /// How the program ended.
 #[derive(Clone, Copy, Debug, PartialEq, Eq)]
