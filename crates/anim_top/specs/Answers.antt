@@ -2,11 +2,11 @@
 use Rattle.std.specs.Prelude.{◌≡◌, ℕ, Bool, false, List, [], ◌∷◌, ◌++◌, Result, Ok, Err, codes}
 use Rattle.std.specs.Fmt.{decimal}
 use Rattle.std.specs.Str.{bytes_eq}
-use Rattle.frame_script.specs.declared.refusal.Cause.{Cause}
-use Rattle.frame_script.specs.declared.refusal.Cause.TheVariants.{BadLine, TooLong}
-use Rattle.frame_script.specs.Refusals.{Refusal}
-use Rattle.frame_script.specs.Animations.{Animation, script_of, word_of}
-use Rattle.frame_script.specs.Reading.{reading}
+use Rattle.animation_script.specs.declared.refusal.Cause.{Cause}
+use Rattle.animation_script.specs.declared.refusal.Cause.TheVariants.{BadLine, TooLong}
+use Rattle.animation_script.specs.Refusals.{Refusal}
+use Rattle.animation_script.specs.Animations.{Animation, script_of, word_of}
+use Rattle.animation_script.specs.Reading.{reading}
 use Rattle.tree_commit.specs.Runs.{report_of}
 use Rattle.word_machine.specs.Texts.{line, report_text}
 use Rattle.anim_top.specs.declared.status.Status.{Status}

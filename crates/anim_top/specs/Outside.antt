@@ -1,10 +1,10 @@
 -- What a run of the program reads and writes.
 use Rattle.std.specs.Prelude.{◌≡◌, ℕ, ◌+◌, ◌^◌, ◌≤◌, List, length, take, Option, IfSome, ◌⊎◌}
 use Rattle.edge_io.specs.Edges.{Gave, Took}
-use Rattle.frame_script.specs.declared.refusal.Cause.{Cause}
-use Rattle.frame_script.specs.Animations.{Animation}
-use Rattle.frame_script.specs.Reading.{reading}
-use Rattle.frame_script.specs.Spelling.{Spells}
+use Rattle.animation_script.specs.declared.refusal.Cause.{Cause}
+use Rattle.animation_script.specs.Animations.{Animation}
+use Rattle.animation_script.specs.Reading.{reading}
+use Rattle.animation_script.specs.Spelling.{Spells}
 use Rattle.anim_top.specs.declared.status.Status.{Status}
 use Rattle.anim_top.specs.declared.status.Status.TheVariants.{Done, Refused, NoMemory}
 use Rattle.anim_top.specs.Answers.{IsRefusedAt, refusal_text, text_of_report, text_for}

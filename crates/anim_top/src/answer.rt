@@ -1,11 +1,11 @@
 //! The answer to a script's bytes.
 
 ghost use Rattle.std.specs.Prelude.{◌≡◌, IfOk, string_bytes};
-ghost use Rattle.frame_script.specs.Reading.{reading};
+ghost use Rattle.animation_script.specs.Reading.{reading};
 ghost use Rattle.anim_top.specs.Answers.{refusal_text, cause_text, status_for, text_for};
 
 use crate::Status;
-use frame_script::{Cause, ScriptFault, read_script};
+use animation_script::{Cause, ScriptFault, read_script};
 use std::alloc::{AllocError, Global};
 use word_machine::{print_report, replay};
 

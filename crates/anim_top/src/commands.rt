@@ -2,7 +2,7 @@
 
 ghost use Rattle.std.specs.Prelude.{◌≡◌, ◌↔◌, ◌≤◌, ℕ, true, false, map, Some, IfSome, string_bytes};
 ghost use Rattle.edge_io.specs.Edges.{HasRisen};
-ghost use Rattle.frame_script.specs.declared.refusal.Cause.{Cause};
+ghost use Rattle.animation_script.specs.declared.refusal.Cause.{Cause};
 ghost use Rattle.anim_top.specs.Answers.{is_form};
 ghost use Rattle.anim_top.specs.Outside.{IsDone, IsRefused, IsCutShort, HasGiven, Answers};
 

@@ -1,8 +1,8 @@
 ghost use Rattle.std.specs.Prelude.{◌≢◌, IfOk};
 
 use super::*;
+use animation_script::Cause;
 use edge_io::{MemorySink, MemorySource, SteadySink, SteadySource};
-use frame_script::Cause;
 use std::alloc::{AllocError, Global};
 use std::test::Fail;
 

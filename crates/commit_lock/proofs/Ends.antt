@@ -10,14 +10,15 @@ use Rattle.anim_names.specs.declared.entry.Entry.{Entry}
 use Rattle.commit_lock.specs.declared.view.Stage.TheVariants.{Absent, Outside}
 use Rattle.commit_lock.specs.declared.view.Part.{Part}
 use Rattle.commit_lock.specs.declared.view.View.{View}
-use Rattle.commit_lock.specs.Journals.{entries_of, BeginsWith}
+use Rattle.commit_lock.specs.Journals.{entries_of}
+use Rattle.anim_names.specs.Lists.{BeginsWith}
 use Rattle.commit_lock.specs.Views.{other_lane, absent, fresh, part_of, first_view, own_half, other_half, whole, spent}
 use Rattle.commit_lock.specs.Rules.{Turn, free, FitsLane, FitsSlot, FitsView, IsKept}
 use Rattle.commit_lock.proofs.Lanes.{one_of_two}
 use Rattle.commit_lock.proofs.Keeps.{put, put-same, put-before, part_of-own, part_of-other, fits_alone, knows}
 use Rattle.commit_lock.proofs.Turns.{free_is}
 
--- what stands at a place of a list with one more at its end
+-- what stands at a table_seat of a list with one more at its end
 at_end : {A : Type 0} (l : List A) (a b : A) (j : ℕ) → get_elem? (l ++ a ∷ []) j ≡ some b → (get_elem? l j ≡ some b) ⊎ ((j ≡ length l) × (a ≡ b))
 at_end [] a b zero e = inr (refl, some-injective a b e)
 at_end [] a b (suc j) e = absurd (some-ne-none b (sym e))
@@ -66,20 +67,20 @@ module _ {V : Type 0} (journal_of : V → List Entry) (subject_of : V → List �
   Kept = IsKept journal_of subject_of subject
 
   -- what the rule says of the other lane, for which a seat speaks too
-  speaks_for_other : (s : State (Option V) View) (h : Kept s) (place : ℕ) (v : View) → get_elem? s.views place ≡ some v → v.other.stage ≢ Absent
-      → (place ≡ h.seat (other_lane v.lane)) × (v.other ≡ h.part (other_lane v.lane))
-  speaks_for_other s h place v at speaks =
-      let said = h.views place v at (other_lane v.lane) (λ none. speaks (ap (λ (p : Part). p.stage) (sym (part_of-other v)) ∙ none)) in
+  speaks_for_other : (s : State (Option V) View) (h : Kept s) (table_seat : ℕ) (v : View) → get_elem? s.views table_seat ≡ some v → v.other.stage ≢ Absent
+      → (table_seat ≡ h.seat (other_lane v.lane)) × (v.other ≡ h.part (other_lane v.lane))
+  speaks_for_other s h table_seat v at speaks =
+      let said = h.views table_seat v at (other_lane v.lane) (λ none. speaks (ap (λ (p : Part). p.stage) (sym (part_of-other v)) ∙ none)) in
       (said.0, sym (part_of-other v) ∙ said.1)
 
   -- a seat that speaks for both lanes is cut in two
-  pub splits : (place : ℕ) (v : View) → v.own.stage ≢ Absent → v.other.stage ≢ Absent → Splits Kept place v (own_half v) (other_half v)
-  splits place v own other s h at =
-      let k = knows journal_of subject_of subject s h place v at own in
-      let o = speaks_for_other s h place v at other in
-      let views = set s.views place (own_half v) in
+  pub splits : (table_seat : ℕ) (v : View) → v.own.stage ≢ Absent → v.other.stage ≢ Absent → Splits Kept table_seat v (own_half v) (other_half v)
+  splits table_seat v own other s h at =
+      let k = knows journal_of subject_of subject s h table_seat v at own in
+      let o = speaks_for_other s h table_seat v at other in
+      let views = set s.views table_seat (own_half v) in
       let seat = put (other_lane v.lane) (length views) h.seat in
-      let elsewhere : (j : ℕ) (u : View) → j ≢ place → get_elem? s.views j ≡ some u → FitsView seat h.part j u =
+      let elsewhere : (j : ℕ) (u : View) → j ≢ table_seat → get_elem? s.views j ≡ some u → FitsView seat h.part j u =
       λ j u apart e lane speaks. let old = h.views j u e lane speaks in ⊎_elim
       (λ (is : lane ≡ v.lane). absurd (apart (old.0 ∙ (ap h.seat is ∙ sym k.place_is))))
       (λ (is : lane ≡ other_lane v.lane). absurd (apart (old.0 ∙ (ap h.seat is ∙ sym o.0))))
@@ -94,30 +95,30 @@ module _ {V : Type 0} (journal_of : V → List Entry) (subject_of : V → List �
         longest = h.longest;
         views = λ j u e. ⊎_elim
             (λ (old : get_elem? views j ≡ some u). ⊎_elim
-            (λ (x : (j ≡ place) × (own_half v ≡ u)). subst (λ (y : ℕ × View). FitsView seat h.part y.0 y.1) (λ i. (sym x.0 i, x.1 i))
-            (fits_alone seat h.part place (own_half v) refl (k.place_is ∙ sym (put-before v.lane (length views) h.seat)) k.part_is))
-            (λ (x : (j ≢ place) × (get_elem? s.views j ≡ some u)). elsewhere j u x.0 x.1)
-            (at_set s.views place j (own_half v) u old))
+            (λ (x : (j ≡ table_seat) × (own_half v ≡ u)). subst (λ (y : ℕ × View). FitsView seat h.part y.0 y.1) (λ i. (sym x.0 i, x.1 i))
+            (fits_alone seat h.part table_seat (own_half v) refl (k.place_is ∙ sym (put-before v.lane (length views) h.seat)) k.part_is))
+            (λ (x : (j ≢ table_seat) × (get_elem? s.views j ≡ some u)). elsewhere j u x.0 x.1)
+            (at_set s.views table_seat j (own_half v) u old))
             (λ (x : (j ≡ length views) × (other_half v ≡ u)). subst (λ (y : ℕ × View). FitsView seat h.part y.0 y.1) (λ i. (sym x.0 i, x.1 i))
             (fits_alone seat h.part (length views) (other_half v) refl (sym (put-same (other_lane v.lane) (length views) h.seat)) o.1))
             (at_end views (other_half v) u j e);
       }
 
   -- the seats of both lanes are put together
-  pub joins : (place : ℕ) (v : View) (other : ℕ) (w : View) → v.own.stage ≢ Absent → v.other ≡ absent → w.own.stage ≢ Absent → w.lane ≡ other_lane v.lane
-      → Joins Kept place v other w (whole v w) spent
-  joins place v other w own alone own' lane_is s h at two there =
-      let k = knows journal_of subject_of subject s h place v at own in
-      let was : get_elem? s.views other ≡ some w = ⊎_elim (λ x. absurd (two x.0)) (λ x. x.1) (at_set s.views place other (whole v w) w there) in
+  pub joins : (table_seat : ℕ) (v : View) (other : ℕ) (w : View) → v.own.stage ≢ Absent → v.other ≡ absent → w.own.stage ≢ Absent → w.lane ≡ other_lane v.lane
+      → Joins Kept table_seat v other w (whole v w) spent
+  joins table_seat v other w own alone own' lane_is s h at two there =
+      let k = knows journal_of subject_of subject s h table_seat v at own in
+      let was : get_elem? s.views other ≡ some w = ⊎_elim (λ x. absurd (two x.0)) (λ x. x.1) (at_set s.views table_seat other (whole v w) w there) in
       let l = knows journal_of subject_of subject s h other w was own' in
-      let seat = put (other_lane v.lane) place h.seat in
-      let both : FitsView seat h.part place (whole v w) = λ lane speaks. ⊎_elim
-      (λ (is : lane ≡ v.lane). subst (λ (x : Lane). (place ≡ seat x) × (part_of (whole v w) x ≡ h.part x)) (sym is)
-      (k.place_is ∙ sym (put-before v.lane place h.seat), part_of-own (whole v w) ∙ k.part_is))
-      (λ (is : lane ≡ other_lane v.lane). subst (λ (x : Lane). (place ≡ seat x) × (part_of (whole v w) x ≡ h.part x)) (sym is)
-      (sym (put-same (other_lane v.lane) place h.seat), part_of-other (whole v w) ∙ (l.part_is ∙ ap h.part lane_is)))
+      let seat = put (other_lane v.lane) table_seat h.seat in
+      let both : FitsView seat h.part table_seat (whole v w) = λ lane speaks. ⊎_elim
+      (λ (is : lane ≡ v.lane). subst (λ (x : Lane). (table_seat ≡ seat x) × (part_of (whole v w) x ≡ h.part x)) (sym is)
+      (k.place_is ∙ sym (put-before v.lane table_seat h.seat), part_of-own (whole v w) ∙ k.part_is))
+      (λ (is : lane ≡ other_lane v.lane). subst (λ (x : Lane). (table_seat ≡ seat x) × (part_of (whole v w) x ≡ h.part x)) (sym is)
+      (sym (put-same (other_lane v.lane) table_seat h.seat), part_of-other (whole v w) ∙ (l.part_is ∙ ap h.part lane_is)))
       (one_of_two v.lane lane) in
-      let elsewhere : (j : ℕ) (u : View) → j ≢ place → j ≢ other → get_elem? s.views j ≡ some u → FitsView seat h.part j u =
+      let elsewhere : (j : ℕ) (u : View) → j ≢ table_seat → j ≢ other → get_elem? s.views j ≡ some u → FitsView seat h.part j u =
       λ j u apart apart' e lane speaks. let old = h.views j u e lane speaks in ⊎_elim
       (λ (is : lane ≡ v.lane). absurd (apart (old.0 ∙ (ap h.seat is ∙ sym k.place_is))))
       (λ (is : lane ≡ other_lane v.lane). absurd (apart' (old.0 ∙ (ap h.seat (is ∙ sym lane_is) ∙ sym l.place_is))))
@@ -132,24 +133,24 @@ module _ {V : Type 0} (journal_of : V → List Entry) (subject_of : V → List �
         longest = h.longest;
         views = λ j u e. ⊎_elim
             (λ (x : (j ≡ other) × (spent ≡ u)). subst (FitsView seat h.part j) x.1 (λ lane speaks. absurd (speaks (spent_is_absent lane))))
-            (λ (x : (j ≢ other) × (get_elem? (set s.views place (whole v w)) j ≡ some u)). ⊎_elim
-            (λ (y : (j ≡ place) × (whole v w ≡ u)). subst (λ (z : ℕ × View). FitsView seat h.part z.0 z.1) (λ i. (sym y.0 i, y.1 i)) both)
-            (λ (y : (j ≢ place) × (get_elem? s.views j ≡ some u)). elsewhere j u y.0 x.0 y.1)
-            (at_set s.views place j (whole v w) u x.1))
-            (at_set (set s.views place (whole v w)) other j spent u e);
+            (λ (x : (j ≢ other) × (get_elem? (set s.views table_seat (whole v w)) j ≡ some u)). ⊎_elim
+            (λ (y : (j ≡ table_seat) × (whole v w ≡ u)). subst (λ (z : ℕ × View). FitsView seat h.part z.0 z.1) (λ i. (sym y.0 i, y.1 i)) both)
+            (λ (y : (j ≢ table_seat) × (get_elem? s.views j ≡ some u)). elsewhere j u y.0 x.0 y.1)
+            (at_set s.views table_seat j (whole v w) u x.1))
+            (at_set (set s.views table_seat (whole v w)) other j spent u e);
       }
 
-  pub closes : (place : ℕ) (v main compositor : View) (words : List ℕ) (slots : List (Option V)) → v ≡ whole main compositor → main.lane ≡ Main
+  pub closes : (table_seat : ℕ) (v main compositor : View) (words : List ℕ) (slots : List (Option V)) → v ≡ whole main compositor → main.lane ≡ Main
       → main.own.stage ≡ Outside → compositor.own.stage ≡ Outside
-      → Final (Seen Kept place v) words slots → (value : V) × (get_elem? slots 0 ≡ some (Some value)) × Closes journal_of subject_of main compositor value
-  closes place v main compositor words slots is lane_is stage stage' final =
+      → Final (Seen Kept table_seat v) words slots → (value : V) × (get_elem? slots 0 ≡ some (Some value)) × Closes journal_of subject_of main compositor value
+  closes table_seat v main compositor words slots is lane_is stage stage' final =
       let own : v.own.stage ≡ Outside = ap (λ (u : View). u.own.stage) is ∙ stage in
       let other : v.other.stage ≡ Outside = ap (λ (u : View). u.other.stage) is ∙ stage' in
       let s = final.0 in
       let h = final.1.0 in
       let at = final.1.1 in
-      let k = knows journal_of subject_of subject s h place v at (λ e. absurd (cc (own, e))) in
-      let o = speaks_for_other s h place v at (λ e. absurd (cc (other, e))) in
+      let k = knows journal_of subject_of subject s h table_seat v at (λ e. absurd (cc (own, e))) in
+      let o = speaks_for_other s h table_seat v at (λ e. absurd (cc (other, e))) in
       let theirs = subst (FitsLane subject h.turn h.journal (other_lane v.lane)) (sym o.1) (h.lanes (other_lane v.lane)) in
       let turn_is : h.turn ≡ free = free_is h.turn v.lane (sym k.fits.stage ∙ own) (sym theirs.stage ∙ other) in
       let home = subst (λ (t : Turn). FitsSlot journal_of subject_of t subject h.journal s.homes) turn_is h.home in

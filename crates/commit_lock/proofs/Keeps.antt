@@ -10,7 +10,8 @@ use Rattle.anim_names.specs.declared.entry.Entry.{Entry}
 use Rattle.commit_lock.specs.declared.view.Stage.TheVariants.{Absent, Outside}
 use Rattle.commit_lock.specs.declared.view.Part.{Part}
 use Rattle.commit_lock.specs.declared.view.View.{View}
-use Rattle.commit_lock.specs.Journals.{is_lane, IsGrownBy}
+use Rattle.commit_lock.specs.Journals.{IsGrownBy}
+use Rattle.anim_names.specs.Lanes.{is_lane}
 use Rattle.commit_lock.specs.Views.{other_lane, absent, part_of}
 use Rattle.commit_lock.specs.Rules.{Turn, turn_word, stage_of, FitsLane, FitsSlot, FitsView, IsKept}
 use Rattle.commit_lock.specs.Steps.{with_own}
@@ -53,10 +54,10 @@ other_fits subject lane before after old new part was is grown fits =
     }
 
 -- a seat that speaks for one lane alone
-pub fits_alone : (seat : Lane → ℕ) (parts : Lane → Part) (place : ℕ) (v : View)
-    → v.other ≡ absent → place ≡ seat v.lane → v.own ≡ parts v.lane → FitsView seat parts place v
-fits_alone seat parts place v alone at known lane speaks =
-    let P : Lane → Type 0 = λ l. (place ≡ seat l) × (part_of v l ≡ parts l) in
+pub fits_alone : (seat : Lane → ℕ) (parts : Lane → Part) (table_seat : ℕ) (v : View)
+    → v.other ≡ absent → table_seat ≡ seat v.lane → v.own ≡ parts v.lane → FitsView seat parts table_seat v
+fits_alone seat parts table_seat v alone at known lane speaks =
+    let P : Lane → Type 0 = λ l. (table_seat ≡ seat l) × (part_of v l ≡ parts l) in
     let N : Lane → Type 0 = λ l. (part_of v l).stage ≢ Absent in
     ⊎_elim
     (λ (own : lane ≡ v.lane). subst P (sym own) (at, part_of-own v ∙ known))
@@ -64,9 +65,9 @@ fits_alone seat parts place v alone at known lane speaks =
     (one_of_two v.lane lane)
 
 -- any other seat
-fits_there : (seat : Lane → ℕ) (parts : Lane → Part) (place : ℕ) (v : View) (part : Part) (j : ℕ) (u : View)
-    → place ≡ seat v.lane → j ≢ place → FitsView seat parts j u → FitsView seat (put v.lane part parts) j u
-fits_there seat parts place v part j u at apart fits lane speaks =
+fits_there : (seat : Lane → ℕ) (parts : Lane → Part) (table_seat : ℕ) (v : View) (part : Part) (j : ℕ) (u : View)
+    → table_seat ≡ seat v.lane → j ≢ table_seat → FitsView seat parts j u → FitsView seat (put v.lane part parts) j u
+fits_there seat parts table_seat v part j u at apart fits lane speaks =
     let old = fits lane speaks in
     ⊎_elim
     (λ (own : lane ≡ v.lane). absurd (apart (old.0 ∙ (ap seat own ∙ sym at))))
@@ -77,15 +78,15 @@ fits_there seat parts place v part j u at apart fits lane speaks =
 
 module _ {V : Type 0} (journal_of : V → List Entry) (subject_of : V → List ℕ) where
   -- what the rule says of the seat of a lane
-  pub record Knows (subject : List ℕ) (s : State (Option V) View) (h : IsKept journal_of subject_of subject s) (place : ℕ) (v : View) : Type 0 where
-    pub place_is : place ≡ h.seat v.lane
+  pub record Knows (subject : List ℕ) (s : State (Option V) View) (h : IsKept journal_of subject_of subject s) (table_seat : ℕ) (v : View) : Type 0 where
+    pub place_is : table_seat ≡ h.seat v.lane
     pub part_is : v.own ≡ h.part v.lane
     pub fits : FitsLane subject h.turn h.journal v.lane v.own
 
-  pub knows : (subject : List ℕ) (s : State (Option V) View) (h : IsKept journal_of subject_of subject s) (place : ℕ) (v : View)
-      → get_elem? s.views place ≡ some v → v.own.stage ≢ Absent → Knows subject s h place v
-  knows subject s h place v at speaks =
-      let said = h.views place v at v.lane (λ none. speaks (ap (λ (p : Part). p.stage) (sym (part_of-own v)) ∙ none)) in
+  pub knows : (subject : List ℕ) (s : State (Option V) View) (h : IsKept journal_of subject_of subject s) (table_seat : ℕ) (v : View)
+      → get_elem? s.views table_seat ≡ some v → v.own.stage ≢ Absent → Knows subject s h table_seat v
+  knows subject s h table_seat v at speaks =
+      let said = h.views table_seat v at v.lane (λ none. speaks (ap (λ (p : Part). p.stage) (sym (part_of-own v)) ∙ none)) in
       let same : v.own ≡ h.part v.lane = sym (part_of-own v) ∙ said.1 in record {
         place_is = said.0;
         part_is = same;
@@ -93,7 +94,7 @@ module _ {V : Type 0} (journal_of : V → List Entry) (subject_of : V → List �
       }
 
   -- after a step in which the seat's own part changes
-  pub own_step : (subject : List ℕ) (s : State (Option V) View) (h : IsKept journal_of subject_of subject s) (place : ℕ) (v : View) (k : Knows subject s h place v)
+  pub own_step : (subject : List ℕ) (s : State (Option V) View) (h : IsKept journal_of subject_of subject s) (table_seat : ℕ) (v : View) (k : Knows subject s h table_seat v)
       (part : Part) (turn : Turn) (journal : List Entry) (words : List ℕ) (homes : List _)
       → v.other ≡ absent
       → words ≡ turn_word turn ∷ length journal ∷ []
@@ -101,8 +102,8 @@ module _ {V : Type 0} (journal_of : V → List Entry) (subject_of : V → List �
       → FitsLane subject turn journal v.lane part
       → FitsLane subject turn journal (other_lane v.lane) (h.part (other_lane v.lane))
       → ((lane : Lane) × ((put v.lane part h.part lane).seen ≡ journal))
-      → IsKept journal_of subject_of subject (record { words = words; homes = homes; views = set s.views place (with_own v part) })
-  own_step subject s h place v k part turn journal words homes alone words' home' own other longest' = record {
+      → IsKept journal_of subject_of subject (record { words = words; homes = homes; views = set s.views table_seat (with_own v part) })
+  own_step subject s h table_seat v k part turn journal words homes alone words' home' own other longest' = record {
     turn = turn;
     journal = journal;
     seat = h.seat;
@@ -115,9 +116,9 @@ module _ {V : Type 0} (journal_of : V → List Entry) (subject_of : V → List �
         (one_of_two v.lane lane);
     longest = longest';
     views = λ j u e. ⊎_elim
-        (λ (x : (j ≡ place) × (with_own v part ≡ u)). subst (λ (y : ℕ × View). FitsView h.seat (put v.lane part h.part) y.0 y.1) (λ i. (sym x.0 i, x.1 i)) (fits_alone h.seat (put v.lane part h.part) place (with_own v part) alone k.place_is (sym (put-same v.lane part h.part))))
-        (λ (x : (j ≢ place) × (get_elem? s.views j ≡ some u)). fits_there h.seat h.part place v part j u k.place_is x.0 (h.views j u x.1))
-        (at_set s.views place j (with_own v part) u e);
+        (λ (x : (j ≡ table_seat) × (with_own v part ≡ u)). subst (λ (y : ℕ × View). FitsView h.seat (put v.lane part h.part) y.0 y.1) (λ i. (sym x.0 i, x.1 i)) (fits_alone h.seat (put v.lane part h.part) table_seat (with_own v part) alone k.place_is (sym (put-same v.lane part h.part))))
+        (λ (x : (j ≢ table_seat) × (get_elem? s.views j ≡ some u)). fits_there h.seat h.part table_seat v part j u k.place_is x.0 (h.views j u x.1))
+        (at_set s.views table_seat j (with_own v part) u e);
   }
 
   -- a lane that has seen all has seen all still, where this lane's part saw no less

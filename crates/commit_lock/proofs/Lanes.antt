@@ -5,7 +5,9 @@ use Rattle.std.proofs.lemmas.List.Elements.{filter-append, All-head, All-tail}
 use Rattle.anim_names.specs.declared.lane.Lane.{Lane}
 use Rattle.anim_names.specs.declared.lane.Lane.TheVariants.{Main, Compositor}
 use Rattle.anim_names.specs.declared.entry.Entry.{Entry}
-use Rattle.commit_lock.specs.Journals.{is_lane, entries_of, BeginsWith, IsGrownBy, GrowsAlike}
+use Rattle.commit_lock.specs.Journals.{entries_of, IsGrownBy, GrowsAlike}
+use Rattle.anim_names.specs.Lanes.{is_lane}
+use Rattle.anim_names.specs.Lists.{BeginsWith}
 use Rattle.commit_lock.specs.Views.{other_lane}
 
 pub is_lane-self : (lane : Lane) → is_lane lane lane ≡ true

@@ -1,22 +1,12 @@
 -- Journals: entries that two lanes made, in one order.
-use Rattle.std.specs.Prelude.{◌≡◌, Bool, true, false, List, ◌++◌, filter, All}
+use Rattle.std.specs.Prelude.{◌≡◌, List, ◌++◌, filter, All}
 use Rattle.anim_names.specs.declared.lane.Lane.{Lane}
-use Rattle.anim_names.specs.declared.lane.Lane.TheVariants.{Main, Compositor}
 use Rattle.anim_names.specs.declared.entry.Entry.{Entry}
-
-abbrev pub is_lane : Lane → Lane → Bool
-is_lane Main Main = true
-is_lane Main Compositor = false
-is_lane Compositor Main = false
-is_lane Compositor Compositor = true
+use Rattle.anim_names.specs.Lanes.{is_lane}
 
 -- the entries of one lane, in their order
 abbrev pub entries_of : Lane → List Entry → List Entry
 entries_of lane journal = filter (λ e. is_lane lane e.lane) journal
-
--- the journal begins with these entries
-abbrev pub BeginsWith : List Entry → List Entry → Type 0
-BeginsWith journal front = (others : List Entry) × (journal ≡ front ++ others)
 
 -- the new journal is the old one, followed by entries of this lane alone
 pub record IsGrownBy (lane : Lane) (old new : List Entry) : Type 0 where

@@ -10,7 +10,9 @@ use Rattle.commit_lock.specs.declared.view.Stage.{Stage}
 use Rattle.commit_lock.specs.declared.view.Stage.TheVariants.{Absent, Outside, HasTurn, HasValue}
 use Rattle.commit_lock.specs.declared.view.Part.{Part}
 use Rattle.commit_lock.specs.declared.view.View.{View}
-use Rattle.commit_lock.specs.Journals.{is_lane, entries_of, BeginsWith}
+use Rattle.commit_lock.specs.Journals.{entries_of}
+use Rattle.anim_names.specs.Lanes.{is_lane}
+use Rattle.anim_names.specs.Lists.{BeginsWith}
 use Rattle.commit_lock.specs.Views.{part_of}
 
 -- Whose turn it is: no lane's; a lane's, while the value lies in its slot; or a lane's, while the value is out with its seat

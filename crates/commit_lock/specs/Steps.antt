@@ -7,7 +7,8 @@ use Rattle.commit_lock.specs.declared.view.Stage.TheVariants.{Outside, HasTurn, 
 use Rattle.commit_lock.specs.declared.view.Part.{Part}
 use Rattle.commit_lock.specs.declared.view.View.{View}
 use Rattle.commit_lock.specs.Views.{absent}
-use Rattle.commit_lock.specs.Journals.{entries_of, BeginsWith}
+use Rattle.commit_lock.specs.Journals.{entries_of}
+use Rattle.anim_names.specs.Lists.{BeginsWith}
 
 -- the view with another part of its own lane
 abbrev pub with_own : View → Part → View

@@ -5,7 +5,7 @@ use Rattle.anim_names.specs.declared.lane.Lane.TheVariants.{Main, Compositor}
 use Rattle.commit_lock.specs.declared.view.Stage.TheVariants.{Absent, Outside}
 use Rattle.commit_lock.specs.declared.view.Part.{Part}
 use Rattle.commit_lock.specs.declared.view.View.{View}
-use Rattle.commit_lock.specs.Journals.{is_lane}
+use Rattle.anim_names.specs.Lanes.{is_lane}
 
 abbrev pub other_lane : Lane → Lane
 other_lane Main = Compositor

@@ -3,7 +3,7 @@ ghost use Rattle.std.specs.Borrow.{Lends, sem};
 ghost use Rattle.commit_lock.specs.contracts.held.Held.{the_row};
 
 use crate::journaled::Journaled;
-use crate::seat::Place;
+use crate::seat::TableSeat;
 use anim_names::Lane;
 use std::marker::Model;
 
@@ -13,7 +13,7 @@ use std::marker::Model;
 /// the value, and the seat as having seen the journal at the section's start.
 pub struct Held<V: Journaled> {
     pub(crate) lane: Lane,
-    pub(crate) place: Place<V>,
+    pub(crate) table_seat: TableSeat<V>,
     pub(crate) value: V,
 }
 
@@ -25,9 +25,9 @@ impl<V: Journaled> Model for Held<V> {
 
     ghost Value = { Section V };
 
-    ghost view = { λ h. record { seat = seat_state h.place.table_id h.place.me.0; value = h.value } };
+    ghost view = { λ h. record { seat = seat_state h.table_seat.table_id h.table_seat.me.0; value = h.value } };
 
-    ghost invariant = { λ h. Stands HasValue ((0, None) ∷ []) h.place.me × (h.place.me.0.lane ≡ h.lane) × HasOwn h.place.me.0 };
+    ghost invariant = { λ h. Stands HasValue ((0, None) ∷ []) h.table_seat.me × (h.table_seat.me.0.lane ≡ h.lane) × HasOwn h.table_seat.me.0 };
 }
 
 impl<V: Journaled> Held<V> {

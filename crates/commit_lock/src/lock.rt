@@ -1,7 +1,8 @@
 ghost use Rattle.std.specs.Prelude.{◌≡◌, [], ◌∷◌, None, Some, IfOk};
 ghost use Rattle.anim_names.specs.declared.lane.Lane.TheVariants.{Main, Compositor};
 ghost use Rattle.commit_lock.specs.declared.view.Stage.TheVariants.{Outside, HasTurn, HasValue};
-ghost use Rattle.commit_lock.specs.Journals.{entries_of, BeginsWith, IsGrownBy, GrowsAlike};
+ghost use Rattle.commit_lock.specs.Journals.{entries_of, IsGrownBy, GrowsAlike};
+ghost use Rattle.anim_names.specs.Lists.{BeginsWith};
 ghost use Rattle.commit_lock.specs.Rules.{number_of};
 ghost use Rattle.commit_lock.specs.Steps.{at_stage, having_seen, having_counted, Stands, HasSeenValue};
 ghost use Rattle.commit_lock.specs.Seats.{fresh_seat, seat_after};
@@ -9,7 +10,7 @@ ghost use Rattle.commit_lock.specs.Seats.{fresh_seat, seat_after};
 use crate::held::Held;
 use crate::journaled::Journaled;
 use crate::rule::{Count, EndTurn, Halves, LockRule, PutBack, TakeTurn, TakeValue};
-use crate::seat::{LaneSeat, Place};
+use crate::seat::{LaneSeat, TableSeat};
 use crate::view::View;
 use anim_names::Lane;
 use atomic_table::{Refused, Table};
@@ -74,11 +75,11 @@ impl<V: Journaled> CommitLock<V> {
                     CommitLock { table },
                     LaneSeat {
                         lane: Lane::Main,
-                        place: main,
+                        table_seat: main,
                     },
                     LaneSeat {
                         lane: Lane::Compositor,
-                        place: compositor,
+                        table_seat: compositor,
                     },
                 ))
             }
@@ -94,10 +95,10 @@ impl<V: Journaled> CommitLock<V> {
         ensures seen { BeginsWith (V.journal result.value) seat.seen }
         ensures mine { entries_of seat.lane (V.journal result.value) ≡ seat.mine }
     {
-        let LaneSeat { lane, mut place } = seat;
-        self.take_turn(rt, &mut place, lane);
-        let value = self.take_value(&mut place);
-        Held { lane, place, value }
+        let LaneSeat { lane, mut table_seat } = seat;
+        self.take_turn(rt, &mut table_seat, lane);
+        let value = self.take_value(&mut table_seat);
+        Held { lane, table_seat, value }
     }
 
     /// Ends a section, in which the journal may only have grown by entries of its own lane. It waits for nobody.
@@ -110,13 +111,13 @@ impl<V: Journaled> CommitLock<V> {
     {
         let Held {
             lane,
-            mut place,
+            mut table_seat,
             value,
         } = held;
-        self.count(&mut place, value);
-        self.put_back(&mut place);
-        self.end_turn(&mut place);
-        LaneSeat { lane, place }
+        self.count(&mut table_seat, value);
+        self.put_back(&mut table_seat);
+        self.end_turn(&mut table_seat);
+        LaneSeat { lane, table_seat }
     }
 
     /// Gives the value back, once both lanes are done.
@@ -131,31 +132,31 @@ impl<V: Journaled> CommitLock<V> {
         ensures compositor_mine { entries_of Compositor (V.journal result) ≡ compositor.mine }
     {
         let CommitLock { table } = self;
-        let LaneSeat { lane: _, mut place } = main;
+        let LaneSeat { lane: _, mut table_seat } = main;
         let LaneSeat {
             lane: _,
-            place: other,
+            table_seat: other,
         } = compositor;
-        table.shared.join_seat::<Halves>(&mut place, other);
-        let mut closed = table.close_with(place);
+        table.shared.join_seat::<Halves>(&mut table_seat, other);
+        let mut closed = table.close_with(table_seat);
         let value = closed.take(VALUE);
         closed.free();
         value.unwrap()
     }
 
     // Waits until the turn is free, and takes it.
-    fn take_turn<R: Wait>(&self, rt: &R, place: &mut Place<V>, lane: Lane)
-        requires lock { place.old.table_id ≡ self.now }
-        requires stands { Stands Outside [] place.old.me × (place.old.me.0.lane ≡ lane) }
-        ensures lock { place.new.table_id ≡ self.now }
-        ensures turn { place.new.me ≡ (at_stage HasTurn place.old.me.0, []) }
+    fn take_turn<R: Wait>(&self, rt: &R, table_seat: &mut TableSeat<V>, lane: Lane)
+        requires lock { table_seat.old.table_id ≡ self.now }
+        requires stands { Stands Outside [] table_seat.old.me × (table_seat.old.me.0.lane ≡ lane) }
+        ensures lock { table_seat.new.table_id ≡ self.now }
+        ensures turn { table_seat.new.me ≡ (at_stage HasTurn table_seat.old.me.0, []) }
     {
         let number = lane_number(lane);
         for _ in rt.forever() {
             let found = self
                 .table
                 .shared
-                .compare_exchange::<TakeTurn>(place, TURN, FREE, number);
+                .compare_exchange::<TakeTurn>(table_seat, TURN, FREE, number);
             if found == FREE {
                 return;
             }
@@ -165,51 +166,51 @@ impl<V: Journaled> CommitLock<V> {
     }
 
     // Takes the value out of its slot.
-    fn take_value(&self, place: &mut Place<V>) -> V
-        requires lock { place.old.table_id ≡ self.now }
-        requires stands { Stands HasTurn [] place.old.me }
-        ensures lock { place.new.table_id ≡ self.now }
-        ensures value { place.new.me ≡ (having_seen (V.journal result) place.old.me.0, (0, None) ∷ []) }
-        ensures subject { V.subject result ≡ place.old.me.0.own.subject }
-        ensures seen { BeginsWith (V.journal result) place.old.me.0.own.seen }
-        ensures mine { entries_of place.old.me.0.lane (V.journal result) ≡ place.old.me.0.own.mine }
+    fn take_value(&self, table_seat: &mut TableSeat<V>) -> V
+        requires lock { table_seat.old.table_id ≡ self.now }
+        requires stands { Stands HasTurn [] table_seat.old.me }
+        ensures lock { table_seat.new.table_id ≡ self.now }
+        ensures value { table_seat.new.me ≡ (having_seen (V.journal result) table_seat.old.me.0, (0, None) ∷ []) }
+        ensures subject { V.subject result ≡ table_seat.old.me.0.own.subject }
+        ensures seen { BeginsWith (V.journal result) table_seat.old.me.0.own.seen }
+        ensures mine { entries_of table_seat.old.me.0.lane (V.journal result) ≡ table_seat.old.me.0.own.mine }
     {
-        self.table.shared.load::<TakeValue>(place, TURN);
-        self.table.shared.exchange(place, VALUE, None).unwrap()
+        self.table.shared.load::<TakeValue>(table_seat, TURN);
+        self.table.shared.exchange(table_seat, VALUE, None).unwrap()
     }
 
     // Counts the journal, with the value in the slot that is out with the seat.
-    fn count(&self, place: &mut Place<V>, value: V)
-        requires lock { place.old.table_id ≡ self.now }
-        requires stands { Stands HasValue ((0, None) ∷ []) place.old.me }
-        requires grown { IsGrownBy place.old.me.0.lane place.old.me.0.own.seen (V.journal value) }
-        ensures lock { place.new.table_id ≡ self.now }
-        ensures counted { place.new.me ≡ (having_counted (V.journal value) place.old.me.0, (0, Some value) ∷ []) }
+    fn count(&self, table_seat: &mut TableSeat<V>, value: V)
+        requires lock { table_seat.old.table_id ≡ self.now }
+        requires stands { Stands HasValue ((0, None) ∷ []) table_seat.old.me }
+        requires grown { IsGrownBy table_seat.old.me.0.lane table_seat.old.me.0.own.seen (V.journal value) }
+        ensures lock { table_seat.new.table_id ≡ self.now }
+        ensures counted { table_seat.new.me ≡ (having_counted (V.journal value) table_seat.old.me.0, (0, Some value) ∷ []) }
     {
         let count = value.entry_count();
-        drop(self.table.shared.exchange(place, VALUE, Some(value)));
-        self.table.shared.store::<Count>(place, COUNT, count);
+        drop(self.table.shared.exchange(table_seat, VALUE, Some(value)));
+        self.table.shared.store::<Count>(table_seat, COUNT, count);
     }
 
     // Puts the slot back, with the value in it.
-    fn put_back(&self, place: &mut Place<V>)
-        requires lock { place.old.table_id ≡ self.now }
-        requires stands { Stands HasValue place.old.me.1 place.old.me }
-        requires value { HasSeenValue V.journal V.subject place.old.me }
-        ensures lock { place.new.table_id ≡ self.now }
-        ensures home { place.new.me ≡ (at_stage HasTurn place.old.me.0, []) }
+    fn put_back(&self, table_seat: &mut TableSeat<V>)
+        requires lock { table_seat.old.table_id ≡ self.now }
+        requires stands { Stands HasValue table_seat.old.me.1 table_seat.old.me }
+        requires value { HasSeenValue V.journal V.subject table_seat.old.me }
+        ensures lock { table_seat.new.table_id ≡ self.now }
+        ensures home { table_seat.new.me ≡ (at_stage HasTurn table_seat.old.me.0, []) }
     {
-        self.table.shared.load::<PutBack>(place, TURN);
+        self.table.shared.load::<PutBack>(table_seat, TURN);
     }
 
     // Gives the turn back.
-    fn end_turn(&self, place: &mut Place<V>)
-        requires lock { place.old.table_id ≡ self.now }
-        requires stands { Stands HasTurn [] place.old.me }
-        ensures lock { place.new.table_id ≡ self.now }
-        ensures turn { place.new.me ≡ (at_stage Outside place.old.me.0, []) }
+    fn end_turn(&self, table_seat: &mut TableSeat<V>)
+        requires lock { table_seat.old.table_id ≡ self.now }
+        requires stands { Stands HasTurn [] table_seat.old.me }
+        ensures lock { table_seat.new.table_id ≡ self.now }
+        ensures turn { table_seat.new.me ≡ (at_stage Outside table_seat.old.me.0, []) }
     {
-        self.table.shared.store::<EndTurn>(place, TURN, FREE);
+        self.table.shared.store::<EndTurn>(table_seat, TURN, FREE);
     }
 }
 

@@ -5,7 +5,7 @@ use atomic_table::Seat;
 use std::marker::Model;
 
 // A seat at a lock's table.
-pub(crate) type Place<V> = Seat<Option<V>, View>;
+pub(crate) type TableSeat<V> = Seat<Option<V>, View>;
 
 /// The right of one lane to make sections at a lock: a lock has two of them, which
 /// [`CommitLock::new`](crate::CommitLock::new) gives. It takes no bytes for what it knows, and may go to any thread.
@@ -15,7 +15,7 @@ pub(crate) type Place<V> = Seat<Option<V>, View>;
 #[derive(Drop)]
 pub struct LaneSeat<V: Journaled> {
     pub(crate) lane: Lane,
-    pub(crate) place: Place<V>,
+    pub(crate) table_seat: TableSeat<V>,
 }
 
 impl<V: Journaled> Model for LaneSeat<V> {
@@ -26,7 +26,7 @@ impl<V: Journaled> Model for LaneSeat<V> {
 
     ghost Value = { SeatState };
 
-    ghost view = { λ s. seat_state s.place.table_id s.place.me.0 };
+    ghost view = { λ s. seat_state s.table_seat.table_id s.table_seat.me.0 };
 
-    ghost invariant = { λ s. Stands Outside [] s.place.me × (s.place.me.0.lane ≡ s.lane) };
+    ghost invariant = { λ s. Stands Outside [] s.table_seat.me × (s.table_seat.me.0.lane ≡ s.lane) };
 }

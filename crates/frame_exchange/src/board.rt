@@ -132,14 +132,14 @@ impl Board {
     pub fn entry_count(&self) -> usize
         ensures value { result ≡ length self.now.entries }
 
-        // What holds of every board.
-        ensures kept { IsExchange self.now }
+        // Of every board: its pulls go with its publishes.
+        ensures exchange { IsExchange self.now }
     {
         let _ = &self.mailbox;
         self.entries.len()
     }
 
-    /// The entry at a place, which counts from 0.
+    /// The entry at an index, from 0.
     pub fn entry_at(&self, i: usize) -> Entry
         requires { i < length self.now.entries }
         ensures { slice_get self.now.entries i ≡ Some result }

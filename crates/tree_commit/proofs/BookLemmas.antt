@@ -1,34 +1,21 @@
 -- Lemmas on what the code keeps of the edits so far.
-use Rattle.std.proofs.Common.{◌≡◌, ℕ, Bool, true, false, not, ◌||◌, List, [], ◌∷◌, ◌++◌, Option, Some, None, option_map, ◌==◌, find, Result, Ok, Err, IsOk, OnOk, rules, sym, ◌∙◌, cond, refl, ap, nat_eq, if◌then◌else◌}
+use Rattle.std.proofs.Common.{◌≡◌, ℕ, Bool, true, false, not, ◌||◌, List, [], ◌∷◌, ◌++◌, Option, Some, None, option_map, ◌==◌, find, Result, Ok, Err, IsOk, OnOk, OnErr, rules, sym, ◌∙◌, cond, refl, ap, nat_eq, if◌then◌else◌}
 use Rattle.std.specs.List.{list_any}
-use Rattle.std.specs.Map.{lookup}
+use Rattle.std.specs.Map.{lookup, set_value}
 use Rattle.indexmap.specs.IndexMap.{insert_entry}
 use Rattle.indexmap.specs.IndexSet.{insert_key, remove_key}
 use Rattle.anim_names.specs.declared.property.Property.{Property}
-use Rattle.anim_names.specs.declared.property.Property.TheVariants.{Opacity, Transform}
 use Rattle.keyframe_model.specs.Models.{Spec, same_property, property_of}
-use Rattle.tree_commit.specs.declared.group_shape.GroupShape.{GroupShape}
-use Rattle.tree_commit.specs.declared.refusal.EditRefusal.TheVariants.{ModelIdUsed, TimelineUnknown, GroupClosed}
+use Rattle.tree_commit.specs.declared.edits.group_shape.GroupShape.{GroupShape}
+use Rattle.tree_commit.specs.declared.edits.refusal.EditRefusal.TheVariants.{ModelIdUsed, TimelineUnknown, GroupClosed}
 use Rattle.tree_commit.specs.Edits.{Book, GroupParts, is_closed, AddModel, edit_refusal, model_refusal, is_in, is_mixed, parts_of, without, new_parts, with_property, with_member}
-use Rattle.tree_commit.specs.Books.{HasParts, properties_from, group_of, groups_from}
+use Rattle.tree_commit.specs.Books.{HasParts, group_of, groups_from}
 
 -- where neither is so, the second is not so
 pub or_right_false : (a b : Bool) → (a || b) ≡ false → b ≡ false
 or_right_false true true h = h
 or_right_false true false h = refl
 or_right_false false b h = h
-
--- a group that does not have a property has the other one alone
-pub properties_from-with : (first property : Property) (has_both : Bool) → list_any (same_property property) (properties_from first has_both) ≡ false
-    → properties_from first has_both ++ property ∷ [] ≡ properties_from first true
-properties_from-with Opacity Opacity true h = cc
-properties_from-with Opacity Opacity false h = cc
-properties_from-with Opacity Transform true h = cc
-properties_from-with Opacity Transform false h = refl
-properties_from-with Transform Opacity true h = cc
-properties_from-with Transform Opacity false h = refl
-properties_from-with Transform Transform true h = cc
-properties_from-with Transform Transform false h = cc
 
 -- a key that is not there goes last
 pub insert_key-new : (ids : List ℕ) (id : ℕ) → is_in id ids ≡ false → insert_key nat_eq ids id ≡ ids ++ id ∷ []
@@ -70,17 +57,33 @@ with_member-first commits model shape (e ∷ es) new =
 pub with_member-further : (commits : ℕ) (model : Spec) (old shape : GroupShape) (entries : List (ℕ × GroupShape))
     → ((k : ℕ) → group_of (k, shape) ≡ with_property (property_of model) (group_of (k, old)))
     → lookup (nat_eq model.group) entries ≡ Some old
-    → groups_from (insert_entry nat_eq entries model.group shape) ≡ with_member commits model (groups_from entries)
+    → groups_from (set_value (nat_eq model.group) entries shape) ≡ with_member commits model (groups_from entries)
 with_member-further commits model old shape [] new = λ found. cc
 with_member-further commits model old shape (e ∷ es) new =
     elim (nat_eq model.group e.0) as (λ b.
     cond b (Some e.1) (lookup (nat_eq model.group) es) ≡ Some old
-    → groups_from (if b then (e.0, shape) ∷ es else e ∷ insert_entry nat_eq es model.group shape)
+    → groups_from (cond b ((e.0, shape) ∷ es) (e ∷ set_value (nat_eq model.group) es shape))
     ≡ (if b then with_property (property_of model) (group_of e) ∷ groups_from es else group_of e ∷ with_member commits model (groups_from es))) [
       | true ↦ λ found.
           let is_old : e.1 ≡ old = cc in
           ap (λ parts. parts ∷ groups_from es) (new e.0 ∙ ap (λ it. with_property (property_of model) (group_of (e.0, it))) (sym is_old))
       | false ↦ λ found. ap (λ rest. group_of e ∷ rest) (with_member-further commits model old shape es new found)
+    ]
+
+-- a group whose shape says the same as before leaves all groups as they were
+pub groups_from-same : (id : ℕ) (old shape : GroupShape) (entries : List (ℕ × GroupShape))
+    → ((k : ℕ) → group_of (k, shape) ≡ group_of (k, old))
+    → lookup (nat_eq id) entries ≡ Some old
+    → groups_from (set_value (nat_eq id) entries shape) ≡ groups_from entries
+groups_from-same id old shape [] same = λ found. refl
+groups_from-same id old shape (e ∷ es) same =
+    elim (nat_eq id e.0) as (λ b.
+    cond b (Some e.1) (lookup (nat_eq id) es) ≡ Some old
+    → groups_from (cond b ((e.0, shape) ∷ es) (e ∷ set_value (nat_eq id) es shape)) ≡ group_of e ∷ groups_from es) [
+      | true ↦ λ found.
+          let is_old : e.1 ≡ old = cc in
+          ap (λ parts. parts ∷ groups_from es) (same e.0 ∙ ap (λ it. group_of (e.0, it)) (sym is_old))
+      | false ↦ λ found. ap (λ rest. group_of e ∷ rest) (groups_from-same id old shape es same found)
     ]
 
 -- ---- what is known of an edit that is not refused
@@ -122,3 +125,8 @@ edit_refusal-parts book model id group element timeline start property parts =
 pub from_ok : {T E P : Type 0} (r : Result T E) → IsOk r → OnOk r P → P
 from_ok (Ok x) ok h = h
 from_ok (Err e) ok h = absurd (search rules)
+
+-- what is so anyway is so at Err
+pub on_err : {T E P : Type 0} (r : Result T E) → P → OnErr r P
+on_err (Ok x) h = tt
+on_err (Err e) h = h

@@ -1,6 +1,2 @@
 pub mod BookLemmas
-pub mod HearingLemmas
-pub mod NumberLemmas
-pub mod RunningLemmas
 pub mod TableLemmas
-pub mod WordLemmas

@@ -1,19 +1,9 @@
 -- What the code keeps of the edits so far, as the book that edits are checked against.
-use Rattle.std.specs.Prelude.{◌≡◌, ℕ, Option, Bool, true, false, List, [], ◌∷◌, map}
+use Rattle.std.specs.Prelude.{◌≡◌, ℕ, Option, List, map}
 use Rattle.anim_names.specs.declared.property.Property.{Property}
-use Rattle.anim_names.specs.declared.property.Property.TheVariants.{Opacity, Transform}
-use Rattle.tree_commit.specs.declared.group_shape.GroupShape.{GroupShape}
+use Rattle.tree_commit.specs.declared.edits.group_shape.GroupShape.{GroupShape}
 use Rattle.keyframe_model.specs.Models.{Spec, property_of}
 use Rattle.tree_commit.specs.Edits.{GroupParts}
-
-abbrev pub other_property : Property → Property
-other_property Opacity = Transform
-other_property Transform = Opacity
-
--- the properties of a group that had this one first, and then perhaps the other one
-abbrev pub properties_from : Property → Bool → List Property
-properties_from first false = first ∷ []
-properties_from first true = first ∷ other_property first ∷ []
 
 -- a group under its id
 abbrev pub group_of : ℕ × GroupShape → GroupParts
@@ -22,7 +12,7 @@ group_of entry = record {
   element = entry.1.element;
   timeline = entry.1.timeline;
   start = entry.1.start;
-  properties = properties_from entry.1.first entry.1.has_both;
+  properties = entry.1.properties.items;
   commits_before = entry.1.commits_before;
 }
 

@@ -3,11 +3,12 @@ use Rattle.std.specs.Prelude.{ℕ, ◌+◌, ◌==◌, nat_le, nat_lt, Bool, fals
 use Rattle.std.specs.List.{list_any}
 use Rattle.std.specs.Option.{option_eq}
 use Rattle.anim_names.specs.declared.limit.LimitName.TheVariants.{Elements, Models, Timelines}
+use Rattle.anim_names.specs.declared.limit.TheConstants.{MOST_ELEMENTS, MOST_MODELS, MOST_TIMELINES}
 use Rattle.anim_names.specs.declared.property.Property.{Property}
 use Rattle.transform_ops.specs.declared.op.TransformOp.{TransformOp}
 use Rattle.keyframe_model.specs.Models.{Spec, property_of, same_property}
-use Rattle.tree_commit.specs.declared.refusal.EditRefusal.{EditRefusal}
-use Rattle.tree_commit.specs.declared.refusal.EditRefusal.TheVariants.{ElementThere, ElementNotThere, ModelIdUsed, ModelUnknown, TimelineThere, TimelineUnknown, GroupClosed, GroupMixed, Limit}
+use Rattle.tree_commit.specs.declared.edits.refusal.EditRefusal.{EditRefusal}
+use Rattle.tree_commit.specs.declared.edits.refusal.EditRefusal.TheVariants.{ElementThere, ElementNotThere, ModelIdUsed, ModelUnknown, TimelineThere, TimelineUnknown, GroupClosed, GroupMixed, Limit}
 use Rattle.tree_commit.specs.Trees.{Look, Element, TreeLists}
 
 -- ---- edits and their effect
@@ -104,21 +105,21 @@ model_refusal book id group element timeline start property =
     if not (is_in timeline book.timelines) then Some TimelineUnknown else
     if is_closed book.commits (parts_of book group) then Some GroupClosed else
     if is_mixed element timeline start property (parts_of book group) then Some GroupMixed else
-    if nat_le 1024 (length book.models) then Some (Limit Models) else
+    if nat_le MOST_MODELS (length book.models) then Some (Limit Models) else
     None
 
 -- why an edit is refused: the first reason in this order
 unfoldable pub edit_refusal : Book → Change → Option EditRefusal
 edit_refusal book (AddElement id look) =
     if is_in id book.elements then Some ElementThere else
-    if nat_le 256 book.elements_added then Some (Limit Elements) else
+    if nat_le MOST_ELEMENTS book.elements_added then Some (Limit Elements) else
     None
 edit_refusal book (RemoveElement id) = if is_in id book.elements then None else Some ElementNotThere
 edit_refusal book (SetOpacity id opacity) = if is_in id book.elements then None else Some ElementNotThere
 edit_refusal book (SetTransform id transform) = if is_in id book.elements then None else Some ElementNotThere
 edit_refusal book (AddTimeline id origin) =
     if is_in id book.timelines then Some TimelineThere else
-    if nat_le 64 (length book.timelines) then Some (Limit Timelines) else
+    if nat_le MOST_TIMELINES (length book.timelines) then Some (Limit Timelines) else
     None
 edit_refusal book (AddModel model) =
     model_refusal book model.id model.group model.element model.timeline model.start (property_of model)

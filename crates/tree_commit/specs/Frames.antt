@@ -4,8 +4,8 @@ use Rattle.anim_names.specs.declared.property.Property.{Property}
 use Rattle.anim_names.specs.declared.property.Property.TheVariants.{Opacity, Transform}
 use Rattle.transform_ops.specs.declared.op.TransformOp.{TransformOp}
 use Rattle.keyframe_model.specs.Models.{Spec, PropertyValue, OpacityValue, TransformValue, property_of, same_property, model_value}
-use Rattle.tree_commit.specs.declared.mark.Mark.{Mark}
-use Rattle.tree_commit.specs.declared.shown.Shown.{Shown}
+use Rattle.tree_commit.specs.declared.runs.mark.Mark.{Mark}
+use Rattle.tree_commit.specs.declared.runs.shown.Shown.{Shown}
 use Rattle.tree_commit.specs.Trees.{Element, TreeLists, Committed, local_time}
 use Rattle.tree_commit.specs.Marks.{is_aborted, start_of}
 
@@ -29,7 +29,7 @@ pub record DrawnFrame : Type 0 where
 abbrev pub shown_by : List Mark → ℕ → Option Shown
 shown_by marks id = if is_aborted marks id then None else start_of marks id
 
--- a value that a model gives, and the place of the mark of its start
+-- a value that a model gives, and the index of the mark of its start
 pub record Given : Type 0 where
   pub value : PropertyValue
   pub order : ℕ
@@ -41,7 +41,7 @@ given_by tree tick model (Some shown) =
     option_map (λ value. record { value = value; order = shown.order })
     (model_value model (local_time tree tick model shown.start))
 
--- of two, that of the model that started later; where both have one place, the first
+-- of two, that of the model that started later; where both have one index, the first
 abbrev pub later_of : Option Given → Given → Option Given
 later_of None new = Some new
 later_of (Some best) new = if nat_lt best.order new.order then Some new else Some best

@@ -6,9 +6,9 @@ use Rattle.anim_names.specs.declared.event.AnimEvent.TheVariants as event
 use Rattle.anim_names.specs.declared.property.Property.{Property}
 use Rattle.micro_time.specs.Timings.{is_done}
 use Rattle.keyframe_model.specs.Models.{Spec, property_of, same_property}
-use Rattle.tree_commit.specs.declared.mark.Mark.{Mark}
-use Rattle.tree_commit.specs.declared.mark.Mark.TheVariants.{Started, Finished, Aborted}
-use Rattle.tree_commit.specs.declared.shown.Shown.{Shown}
+use Rattle.tree_commit.specs.declared.runs.mark.Mark.{Mark}
+use Rattle.tree_commit.specs.declared.runs.mark.Mark.TheVariants.{Started, Finished, Aborted}
+use Rattle.tree_commit.specs.declared.runs.shown.Shown.{Shown}
 use Rattle.tree_commit.specs.Trees.{TreeLists, Committed, has_element, has_model, has_group, members_of, groups_of, time_of, local_time}
 
 -- ---- what one mark says
@@ -76,15 +76,15 @@ is_aborted marks id = list_any (aborts id) marks
 abbrev pub is_running : List Mark → ℕ → Bool
 is_running marks id = is_started marks id && not (is_ended marks id)
 
--- the start that was recorded for a model, and the place of that mark, the first mark being at this place
+-- the start that was recorded for a model, and the index of that mark, where the first mark has this index
 abbrev pub start_from : ℕ → List Mark → ℕ → Option Shown
-start_from place [] id = None
-start_from place (Started model group element property at start ∷ marks) id =
-    if id == model then Some (record { start = start; order = place }) else start_from (place + 1) marks id
-start_from place (Finished model at ∷ marks) id = start_from (place + 1) marks id
-start_from place (Aborted model commit ∷ marks) id = start_from (place + 1) marks id
+start_from index [] id = None
+start_from index (Started model group element property at start ∷ marks) id =
+    if id == model then Some (record { start = start; order = index }) else start_from (index + 1) marks id
+start_from index (Finished model at ∷ marks) id = start_from (index + 1) marks id
+start_from index (Aborted model commit ∷ marks) id = start_from (index + 1) marks id
 
--- the start that was recorded for a model, and the place of that mark
+-- the start that was recorded for a model, and the index of that mark
 abbrev pub start_of : List Mark → ℕ → Option Shown
 start_of marks id = start_from 0 marks id
 

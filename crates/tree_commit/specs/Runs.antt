@@ -1,15 +1,15 @@
 -- A run: what stands in each lane, what each step makes of it, and the report of a script for any word of its lanes.
-use Rattle.std.specs.Prelude.{ℕ, ◌+◌, nat_lt, ◌&&◌, is_none, if◌then◌else◌, List, [], ◌∷◌, ◌++◌, length, drop, map, fold, Option, Some, None}
+use Rattle.std.specs.Prelude.{ℕ, nat_lt, ◌&&◌, is_none, if◌then◌else◌, List, [], ◌∷◌, ◌++◌, length, drop, map, fold, Option, Some, None}
 use Rattle.anim_names.specs.declared.event.AnimEvent.{AnimEvent}
 use Rattle.anim_names.specs.declared.event.AnimEvent.TheVariants.{Started, Finished, Aborted}
 use Rattle.anim_names.specs.declared.lane.Lane.{Lane}
 use Rattle.anim_names.specs.declared.lane.Lane.TheVariants.{Main, Compositor}
 use Rattle.anim_delegate.specs.Table.{verdict_on, is_retire}
 use Rattle.keyframe_model.specs.Models.{Spec}
-use Rattle.tree_commit.specs.declared.mark.Mark.{Mark}
-use Rattle.tree_commit.specs.declared.step.CompositorStep.{CompositorStep}
-use Rattle.tree_commit.specs.declared.step.CompositorStep.TheVariants.{Pull, Activate, Tick}
-use Rattle.tree_commit.specs.Trees.{TreeLists, Committed, empty_tree, empty_commit, model_with}
+use Rattle.tree_commit.specs.declared.runs.mark.Mark.{Mark}
+use Rattle.tree_commit.specs.declared.runs.compositor_step.CompositorStep.{CompositorStep}
+use Rattle.tree_commit.specs.declared.runs.compositor_step.CompositorStep.TheVariants.{Pull, Activate, Tick}
+use Rattle.tree_commit.specs.Trees.{TreeLists, Committed, empty_tree, empty_commit, next_commit, model_with}
 use Rattle.tree_commit.specs.Edits.{tree_after, without_model}
 use Rattle.tree_commit.specs.Scripts.{StepOfMain, EditStep, CommitStep, DrainStep, ScriptLists}
 use Rattle.tree_commit.specs.Marks.{event_of, marks_of_tick, marks_of_activation}
@@ -51,7 +51,7 @@ unheard_events marks lane = drop (length lane.heard) (map event_of marks)
 -- A commit takes the tree as it is, under the next number.
 abbrev pub after_commit : MainLane → MainLane
 after_commit lane =
-    record lane { commits = lane.commits ++ record { number = length lane.commits + 1; tree = lane.tree } ∷ [] }
+    record lane { commits = lane.commits ++ next_commit (length lane.commits) lane.tree ∷ [] }
 
 -- At a drain main hears all events that it has not heard, in order.
 unfoldable pub after_drain : List Mark → MainLane → MainLane

@@ -1,5 +1,5 @@
 -- Trees and commits as lists, and what is read off them.
-use Rattle.std.specs.Prelude.{ℕ, ◌==◌, Bool, if◌then◌else◌, ℤ, ◌-ℤ◌, List, [], ◌∷◌, ◌++◌, filter, fold, find, Option, option_map, unwrap_or}
+use Rattle.std.specs.Prelude.{ℕ, ◌+◌, ◌==◌, Bool, if◌then◌else◌, ℤ, ◌-ℤ◌, List, [], ◌∷◌, ◌++◌, filter, fold, find, Option, option_map, unwrap_or}
 use Rattle.std.specs.List.{list_any}
 use Rattle.anim_timeline.specs.Timelines.{timeline_time}
 use Rattle.transform_ops.specs.declared.op.TransformOp.{TransformOp}
@@ -35,6 +35,10 @@ empty_tree = record { elements = []; models = []; timelines = [] }
 pub record Committed : Type 0 where
   pub number : ℕ
   pub tree : TreeLists
+
+-- the commit that a commit step makes of a tree, where there were this many before it
+abbrev pub next_commit : ℕ → TreeLists → Committed
+next_commit count tree = record { number = count + 1; tree = tree }
 
 -- commit 0, which is active before any other
 abbrev pub empty_commit : Committed

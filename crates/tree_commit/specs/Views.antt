@@ -1,10 +1,10 @@
 -- What the edits, the steps and the rows of frames of the code stand for: whatever is shared there is seen as its value.
 use Rattle.tree_commit.specs.declared.base.Base.{Base}
-use Rattle.tree_commit.specs.declared.edit.Edit.{Edit}
-use Rattle.tree_commit.specs.declared.edit.Edit.TheVariants as edit
-use Rattle.tree_commit.specs.declared.frame_row.FrameRow.{FrameRow}
-use Rattle.tree_commit.specs.declared.main_step.MainStep.{MainStep}
-use Rattle.tree_commit.specs.declared.main_step.MainStep.TheVariants as step
+use Rattle.tree_commit.specs.declared.edits.edit.Edit.{Edit}
+use Rattle.tree_commit.specs.declared.edits.edit.Edit.TheVariants as edit
+use Rattle.tree_commit.specs.declared.runs.frame_row.FrameRow.{FrameRow}
+use Rattle.tree_commit.specs.declared.runs.main_step.MainStep.{MainStep}
+use Rattle.tree_commit.specs.declared.runs.main_step.MainStep.TheVariants as step
 use Rattle.tree_commit.specs.Trees.{Look}
 use Rattle.tree_commit.specs.Edits.{Change, AddElement, RemoveElement, SetOpacity, SetTransform, AddTimeline, AddModel, RemoveModel}
 use Rattle.tree_commit.specs.Frames.{DrawnRow}

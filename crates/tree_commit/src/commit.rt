@@ -16,12 +16,22 @@ use std::sync::Arc;
 ///
 /// Lists and models are shared with main's tree and with other commits; a commit has only tables of its own. A
 /// contract sees its number and the tree as lists.
-#[derive(Drop)]
 pub struct Commit {
     number: u32,
     elements: IndexMap<ElementId, Base>,
     models: IndexMap<ModelId, Arc<ModelSpec>>,
     timelines: IndexMap<TimelineId, Timeline>,
+}
+
+impl Drop for Commit {
+    fn drop(self) {
+        let Commit {
+            number: _,
+            elements: _elements,
+            models: _models,
+            timelines: _timelines,
+        } = self;
+    }
 }
 
 impl Model for Commit {
@@ -98,7 +108,7 @@ impl Commit {
         self.elements.len()
     }
 
-    /// The element at a place, which counts from 0, with what it shows where nothing animates it.
+    /// The element at an index, from 0, with what it shows where nothing animates it.
     pub fn element_at(&self, i: usize) -> (ElementId, &Base)
         requires { i < length self.now.tree.elements }
         ensures { slice_get self.now.tree.elements i ≡ Some (record { id = result.0; look = look_of result.1.now }) }
@@ -125,7 +135,7 @@ impl Commit {
         self.models.len()
     }
 
-    /// The model at a place, which counts from 0.
+    /// The model at an index, from 0.
     pub fn model_at(&self, i: usize) -> &Arc<ModelSpec>
         requires { i < length self.now.tree.models }
         ensures { slice_get self.now.tree.models i ≡ Some result.now.value }
@@ -141,9 +151,9 @@ impl Commit {
         self.models.contains_key(&id)
     }
 
-    /// The place of the model. There is none exactly where the model is not in it.
+    /// The index of the model. There is none exactly where the model is not in it.
     pub fn place_of(&self, id: ModelId) -> Option<usize>
-        ensures place { result ≡ position (λ model. id == model.id) self.now.tree.models }
+        ensures index { result ≡ position (λ model. id == model.id) self.now.tree.models }
         ensures found { is_some result ≡ has_model self.now.tree id }
     {
         self.models.get_index_of(&id)

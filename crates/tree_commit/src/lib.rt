@@ -7,31 +7,21 @@
 
 pub mod base;
 pub mod commit;
-pub mod edit;
-pub mod edit_book;
-pub mod fault;
-pub mod frame;
-pub mod frame_row;
-pub mod group_shape;
-pub mod laws;
-pub mod main_step;
-pub mod mark;
-pub mod refusal;
-pub mod shown;
-pub mod step;
+pub mod edits;
+pub mod runs;
 
 pub use base::Base;
 pub use commit::Commit;
-pub use edit::Edit;
-pub use edit_book::EditBook;
-pub use fault::EditFault;
-pub use frame::Frame;
-pub use frame_row::FrameRow;
-pub use main_step::MainStep;
-pub use mark::Mark;
-pub use refusal::EditRefusal;
-pub use shown::Shown;
-pub use step::CompositorStep;
+pub use edits::edit::Edit;
+pub use edits::edit_book::EditBook;
+pub use edits::fault::EditFault;
+pub use edits::refusal::EditRefusal;
+pub use runs::compositor_step::CompositorStep;
+pub use runs::frame::Frame;
+pub use runs::frame_row::FrameRow;
+pub use runs::main_step::MainStep;
+pub use runs::mark::Mark;
+pub use runs::shown::Shown;
 
 #[cfg(test)]
 mod tests;

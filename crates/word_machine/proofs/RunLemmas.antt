@@ -14,16 +14,16 @@ use Rattle.curve_keys.specs.Curves.{Keyframes, curve_value}
 use Rattle.value_blend.specs.Blends.{blend_opacity}
 use Rattle.transform_ops.specs.Lists.{blend_lists}
 use Rattle.keyframe_model.specs.Models.{PropertyCurve, OpacityCurve, TransformCurve, PropertyValue, OpacityValue, TransformValue, property_of, value_on, model_value}
-use Rattle.tree_commit.specs.declared.mark.Mark.{Mark}
-use Rattle.tree_commit.specs.declared.mark.Mark.TheVariants.{Started, Finished}
-use Rattle.tree_commit.specs.declared.step.CompositorStep.{CompositorStep}
-use Rattle.tree_commit.specs.declared.step.CompositorStep.TheVariants.{Tick}
+use Rattle.tree_commit.specs.declared.runs.mark.Mark.{Mark}
+use Rattle.tree_commit.specs.declared.runs.mark.Mark.TheVariants.{Started, Finished}
+use Rattle.tree_commit.specs.declared.runs.compositor_step.CompositorStep.{CompositorStep}
+use Rattle.tree_commit.specs.declared.runs.compositor_step.CompositorStep.TheVariants.{Tick}
 use Rattle.tree_commit.specs.Trees.{TreeLists, Committed}
 use Rattle.tree_commit.specs.Edits.{tree_after}
 use Rattle.tree_commit.specs.Marks.{event_of, aborts, is_ready, finish_marks, start_marks, marks_of_tick, marks_of_activation}
 use Rattle.tree_commit.specs.Frames.{DrawnFrame, animated_value, row_of, frame_at}
 use Rattle.tree_commit.specs.Runs.{Lanes, beginning, after_letter, after, main_step, compositor_step, after_drain, closing_report, ReportLists, report_of}
-use Rattle.frame_script.specs.Animations.{Animation, animation_parts, model_of, script_of, word_of}
+use Rattle.animation_script.specs.Animations.{Animation, animation_parts, model_of, script_of, word_of}
 use Rattle.word_machine.specs.Shortcuts.{since, is_done_at, row_with, frame_of, frames_of, finish_of, finished, events_at}
 
 -- ---- what stands after the pull and the activate

@@ -5,7 +5,7 @@
 
 ghost use Rattle.std.specs.Prelude.{◌≡◌, ◌+◌, ◌≤◌, ◌^◌, ◌++◌, ◌∷◌, [], length, map, replicate, unsigned_abs, All, IfOk, OnOk, Some, None};
 ghost use Rattle.anim_names.specs.declared.lane.Lane.TheVariants.{Main, Compositor};
-ghost use Rattle.frame_script.specs.Animations.{latest, model_of, most_ticks, script_of, word_of};
+ghost use Rattle.animation_script.specs.Animations.{latest, model_of, most_ticks, script_of, word_of};
 ghost use Rattle.keyframe_model.specs.Models.{model_value};
 ghost use Rattle.keyframe_model.specs.Views.{value_of};
 ghost use Rattle.tree_commit.specs.Runs.{report_of};
@@ -14,7 +14,7 @@ ghost use Rattle.word_machine.specs.Shortcuts.{since, is_done_at, row_with, fram
 
 use crate::Report;
 use anim_names::{AnimEvent, Lane};
-use frame_script::AnimationScript;
+use animation_script::AnimationScript;
 use keyframe_model::Value;
 use std::alloc::{AllocError, Global};
 use tree_commit::{Frame, FrameRow};

@@ -1,6 +1,6 @@
 -- A pull before any commit takes nothing, so the next pull can take the first commit.
 use Rattle.std.specs.Prelude.{[], ◌∷◌, codes}
-use Rattle.tree_commit.specs.declared.step.CompositorStep.TheVariants.{Pull, Activate, Tick}
+use Rattle.tree_commit.specs.declared.runs.compositor_step.CompositorStep.TheVariants.{Pull, Activate, Tick}
 use Rattle.tree_commit.specs.Scripts.{ScriptLists, CommitStep}
 use Rattle.tree_commit.specs.Runs.{ReportLists}
 use Rattle.worked_scripts.specs.Pieces.{letters, element, frame, row}

@@ -9,7 +9,7 @@ use Rattle.easing_fixed.specs.Steps.{step_parts}
 use Rattle.transform_ops.specs.declared.op.TransformOp.{TransformOp}
 use Rattle.curve_keys.specs.Curves.{Keyframes}
 use Rattle.keyframe_model.specs.Models.{OpacityCurve, TransformCurve}
-use Rattle.tree_commit.specs.declared.step.CompositorStep.TheVariants.{Pull, Activate, Tick}
+use Rattle.tree_commit.specs.declared.runs.compositor_step.CompositorStep.TheVariants.{Pull, Activate, Tick}
 use Rattle.tree_commit.specs.Edits.{AddElement}
 use Rattle.tree_commit.specs.Scripts.{ScriptLists, EditStep, CommitStep, DrainStep}
 use Rattle.tree_commit.specs.Runs.{ReportLists}

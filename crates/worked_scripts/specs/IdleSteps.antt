@@ -1,6 +1,6 @@
 -- A pull while a commit is pending takes nothing, a second activation does nothing, and drains without news hear nothing.
 use Rattle.std.specs.Prelude.{[], ◌∷◌, codes}
-use Rattle.tree_commit.specs.declared.step.CompositorStep.TheVariants.{Pull, Activate, Tick}
+use Rattle.tree_commit.specs.declared.runs.compositor_step.CompositorStep.TheVariants.{Pull, Activate, Tick}
 use Rattle.tree_commit.specs.Scripts.{ScriptLists, CommitStep, DrainStep}
 use Rattle.tree_commit.specs.Runs.{ReportLists}
 use Rattle.worked_scripts.specs.Pieces.{letters, element, frame, row}

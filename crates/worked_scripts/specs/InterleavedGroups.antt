@@ -4,7 +4,7 @@ use Rattle.std.specs.Prelude.{pos, [], ◌∷◌, codes}
 use Rattle.anim_names.specs.declared.event.AnimEvent.TheVariants.{Started, Finished}
 use Rattle.micro_time.specs.declared.fill.Fill.TheVariants.{Neither}
 use Rattle.keyframe_model.specs.Models.{OpacityCurve, TransformCurve}
-use Rattle.tree_commit.specs.declared.step.CompositorStep.TheVariants.{Pull, Activate, Tick}
+use Rattle.tree_commit.specs.declared.runs.compositor_step.CompositorStep.TheVariants.{Pull, Activate, Tick}
 use Rattle.tree_commit.specs.Scripts.{ScriptLists, CommitStep}
 use Rattle.tree_commit.specs.Runs.{ReportLists}
 use Rattle.worked_scripts.specs.Pieces.{letters, timeline_1, element, model, model_of, added, runs, linear, moved, frame, row}

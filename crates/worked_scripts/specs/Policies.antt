@@ -6,7 +6,7 @@ use Rattle.anim_delegate.specs.declared.policy.Policy.{Policy}
 use Rattle.anim_delegate.specs.declared.policy.Policy.TheVariants.{Auto, FinishedOnly, Manual}
 use Rattle.micro_time.specs.declared.fill.Fill.TheVariants.{Both}
 use Rattle.keyframe_model.specs.Models.{PropertyCurve, OpacityCurve}
-use Rattle.tree_commit.specs.declared.step.CompositorStep.TheVariants.{Pull, Activate, Tick}
+use Rattle.tree_commit.specs.declared.runs.compositor_step.CompositorStep.TheVariants.{Pull, Activate, Tick}
 use Rattle.tree_commit.specs.Edits.{RemoveElement}
 use Rattle.tree_commit.specs.Scripts.{StepOfMain, ScriptLists, EditStep, CommitStep, DrainStep}
 use Rattle.tree_commit.specs.Runs.{ReportLists, Lanes, beginning, after}

@@ -4,8 +4,8 @@ use Rattle.std.specs.List.{range_with_len}
 use Rattle.anim_names.specs.declared.limit.LimitName.TheVariants.{Timelines}
 use Rattle.micro_time.specs.declared.fill.Fill.TheVariants.{Neither}
 use Rattle.keyframe_model.specs.Models.{PropertyCurve, OpacityCurve, TransformCurve}
-use Rattle.tree_commit.specs.declared.refusal.EditRefusal.{EditRefusal}
-use Rattle.tree_commit.specs.declared.refusal.EditRefusal.TheVariants.{ElementThere, ElementNotThere, ModelIdUsed, ModelUnknown, TimelineThere, TimelineUnknown, GroupClosed, GroupMixed, Limit}
+use Rattle.tree_commit.specs.declared.edits.refusal.EditRefusal.{EditRefusal}
+use Rattle.tree_commit.specs.declared.edits.refusal.EditRefusal.TheVariants.{ElementThere, ElementNotThere, ModelIdUsed, ModelUnknown, TimelineThere, TimelineUnknown, GroupClosed, GroupMixed, Limit}
 use Rattle.tree_commit.specs.Edits.{Book, edit_refusal, book_after, book_after_commit, RemoveElement, SetOpacity, AddTimeline, RemoveModel}
 use Rattle.tree_commit.specs.Scripts.{StepOfMain, EditStep, CommitStep, DrainStep}
 use Rattle.worked_scripts.specs.Pieces.{timeline_1, element, model_of, added, runs, linear, moved}

@@ -2,7 +2,7 @@
 use Rattle.std.specs.Prelude.{[], ◌∷◌, codes}
 use Rattle.micro_time.specs.declared.fill.Fill.TheVariants.{Neither}
 use Rattle.keyframe_model.specs.Models.{OpacityCurve}
-use Rattle.tree_commit.specs.declared.step.CompositorStep.TheVariants.{Pull, Activate, Tick}
+use Rattle.tree_commit.specs.declared.runs.compositor_step.CompositorStep.TheVariants.{Pull, Activate, Tick}
 use Rattle.tree_commit.specs.Edits.{RemoveModel}
 use Rattle.tree_commit.specs.Scripts.{ScriptLists, EditStep, CommitStep}
 use Rattle.tree_commit.specs.Runs.{ReportLists}

@@ -1,6 +1,6 @@
 use Rattle.std.proofs.Common.{rules, ◌≡◌, refl, sym, ap, ◌∙◌, subst, Some}
 use mathlib.Core.Option.{some-injective}
-use Rattle.commit_lock.specs.Journals.{BeginsWith}
+use Rattle.anim_names.specs.Lists.{BeginsWith}
 use Rattle.commit_lock.specs.Views.{other_lane}
 use Rattle.commit_lock.specs.Seats.{SeatState}
 use Rattle.commit_lock.proofs.Ends.{joins, Closes, closes}
@@ -32,7 +32,7 @@ unwrap-requires g c =
     let compositor = c.compositor.invariant.0 in
     let first = ap (λ s. s.lane) c.main.view_is ∙ c.requires.main.1 in
     let me = ap (λ m. m.0) c.join_seat.ensures.2 in
-    let value = closes g.V.Journaled.journal g.V.Journaled.subject _ _ _ c.main.inside.place.me.0 c.compositor.inside.place.me.0 _ _ me first main.stage_is compositor.stage_is c.close_with-closed.ensures.values.2 in
+    let value = closes g.V.Journaled.journal g.V.Journaled.subject _ _ _ c.main.inside.table_seat.me.0 c.compositor.inside.table_seat.me.0 _ _ me first main.stage_is compositor.stage_is c.close_with-closed.ensures.values.2 in
     let same = some-injective _ _ (sym c.take-value.ensures.value ∙ value.1) in
     rw same refl
 
@@ -43,9 +43,9 @@ returns g c =
     let compositor = c.compositor.invariant.0 in
     let first = ap (λ s. s.lane) c.main.view_is ∙ c.requires.main.1 in
     let me = ap (λ m. m.0) c.join_seat.ensures.2 in
-    let value = closes journal_of g.V.Journaled.subject _ _ _ c.main.inside.place.me.0 c.compositor.inside.place.me.0 _ _ me first main.stage_is compositor.stage_is c.close_with-closed.ensures.values.2 in
+    let value = closes journal_of g.V.Journaled.subject _ _ _ c.main.inside.table_seat.me.0 c.compositor.inside.table_seat.me.0 _ _ me first main.stage_is compositor.stage_is c.close_with-closed.ensures.values.2 in
     let taken = some-injective _ _ (sym value.1 ∙ c.take-value.ensures.value) ∙ c.unwrap.ensures in
-    let out = subst (Closes journal_of g.V.Journaled.subject c.main.inside.place.me.0 c.compositor.inside.place.me.0) (same_some _ _ taken) value.2 in
+    let out = subst (Closes journal_of g.V.Journaled.subject c.main.inside.table_seat.me.0 c.compositor.inside.table_seat.me.0) (same_some _ _ taken) value.2 in
     record {
       main_subject = out.about.0 ∙ ap (λ s. s.subject) c.main.view_is;
       compositor_subject = out.about.1 ∙ ap (λ s. s.subject) c.compositor.view_is;

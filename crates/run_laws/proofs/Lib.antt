@@ -1,0 +1,4 @@
+pub mod HearingLemmas
+pub mod NumberLemmas
+pub mod RunningLemmas
+pub mod WordLemmas

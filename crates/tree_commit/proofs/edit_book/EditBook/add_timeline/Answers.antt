@@ -1,9 +1,0 @@
-use Rattle.std.proofs.Common.{◌≡◌, ap, ◌∙◌, false}
-use Rattle.tree_commit.specs.Edits.{is_in}
-use Rattle.tree_commit.proofs.BookLemmas.{insert_key-new}
-use Rattle.tree_commit.proofs.edit_book.EditBook.add_timeline.Goals as goal
-
-pub returns-clause-ok : goal.returns-clause-ok
-returns-clause-ok c =
-    let absent : is_in c.args.id c.self.inside.timelines.keys ≡ false = ap (λ b. is_in c.args.id b.timelines) c.self.view_is ∙ c.requires in
-    rw (← c.self.view_is, c.in_ok-insert.ensures.keys, insert_key-new)
