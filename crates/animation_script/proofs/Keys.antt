@@ -2,7 +2,7 @@
 use Rattle.std.proofs.Common.{◌≡◌, ℕ, zero, suc, ◌+◌, ◌-◌, ◌<◌, ◌≤◌, true, All, List, [], ◌∷◌, ◌++◌, length, Option, Some, None, Result, Ok, Err, refl, ap, sym, subst, ◌∙◌, append_assoc, arith}
 use Rattle.std.proofs.lemmas.List.{append-nil}
 use Rattle.curve_keys.specs.declared.key.Key.{Key}
-use Rattle.curve_keys.specs.Curves.{longest, is_rising_from, curve_refusal}
+use Rattle.curve_keys.specs.Curves.{is_rising_from, curve_refusal}
 use Rattle.animation_script.specs.declared.refusal.ScriptFault.{ScriptFault}
 use Rattle.animation_script.specs.declared.refusal.ScriptFault.TheVariants as faults
 use Rattle.animation_script.specs.Refusals.{Refusal, ◌>>=◌, Left, Fails}
@@ -13,7 +13,7 @@ use Rattle.std.proofs.lemmas.Bool.{lt-ltb, le-ltb}
 use Rattle.script_fields.specs.Fields.{fields}
 use Rattle.script_fields.specs.Numbers.{natural_within}
 use Rattle.script_fields.specs.Easings.{easing_said}
-use Rattle.animation_script.specs.Animated.{key_parts, key_of, key_said}
+use Rattle.animation_script.specs.Animated.{key_parts, key_of, key_said, longest}
 use Rattle.animation_script.specs.Spelling.{SayKeys}
 use Rattle.animation_script.proofs.Said.{ok_is, some_is, bind_some, guarded, number_is, bind_ok, line_said_is, left_with, line_said_again}
 use Rattle.animation_script.specs.Reading.{line_said, keys_from}

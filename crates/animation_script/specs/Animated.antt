@@ -8,7 +8,7 @@ use Rattle.micro_time.specs.declared.fill.Fill.{Fill}
 use Rattle.micro_time.specs.declared.iterations.Iterations.{Iterations}
 use Rattle.micro_time.specs.Timings.{TimingParts, timing_parts, refusal}
 use Rattle.easing_fixed.specs.declared.easing.Easing.{Easing}
-use Rattle.value_blend.specs.Blends.{full_opacity}
+use Rattle.value_blend.specs.declared.TheConstants.{FULL_OPACITY}
 use Rattle.transform_ops.specs.declared.op.TransformOp.{TransformOp}
 use Rattle.curve_keys.specs.declared.key.Key.{Key}
 use Rattle.script_fields.specs.Fields.{unless}
@@ -27,7 +27,7 @@ found >>= more = option_and_then more found
 -- ---- the element
 
 unfoldable pub opacity_said : List ℕ → Option ℕ
-opacity_said field = natural_within 0 full_opacity field
+opacity_said field = natural_within 0 FULL_OPACITY field
 
 unfoldable pub look_said : List ℕ → List (List ℕ) → Option (ℕ × List TransformOp)
 look_said opacity list = do

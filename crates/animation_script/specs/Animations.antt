@@ -6,7 +6,7 @@ use Rattle.anim_delegate.specs.declared.policy.Policy.{Policy}
 use Rattle.micro_time.specs.Timings.{TimingParts, refusal}
 use Rattle.value_blend.specs.Blends.{IsOpacity}
 use Rattle.transform_ops.specs.declared.op.TransformOp.{TransformOp}
-use Rattle.transform_ops.specs.Lists.{IsTransform}
+use Rattle.transform_ops.specs.Lists.{IsList}
 use Rattle.keyframe_model.specs.Models.{Spec, PropertyCurve, curve_duration, model_parts}
 use Rattle.tree_commit.specs.declared.runs.compositor_step.CompositorStep.{CompositorStep}
 use Rattle.tree_commit.specs.declared.runs.compositor_step.CompositorStep.TheVariants.{Pull, Activate, Tick}
@@ -44,7 +44,7 @@ NeverFall last (t ∷ ts) = (last ≤ t) × (t ≤ latest) × NeverFall t ts
 
 pub record IsAnimation (animation : Animation) : Type 0 where
   pub opacity : IsOpacity animation.opacity
-  pub transform : IsTransform animation.transform
+  pub transform : IsList animation.transform
   pub timing : refusal animation.timing ≡ None
   pub duration : animation.timing.duration ≡ curve_duration animation.curve
   pub few : length animation.ticks ≤ most_ticks

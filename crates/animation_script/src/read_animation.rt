@@ -1,7 +1,7 @@
 //! Reading a script of the form.
 
 ghost use Rattle.std.specs.Prelude.{◌≡◌, ◌<◌, ◌≤◌, ◌^◌, All, length, option_map, IfOk, IfSome, Ok, None, string_bytes};
-ghost use Rattle.curve_keys.specs.Curves.{curve_refusal, duration_of, keyframes, longest};
+ghost use Rattle.curve_keys.specs.Curves.{curve_refusal, duration_of, keyframes};
 ghost use Rattle.keyframe_model.specs.Models.{curve_duration, model_parts};
 ghost use Rattle.keyframe_model.specs.Views.{curve_of};
 ghost use Rattle.animation_script.specs.Refusals.{Gives, left_at};
@@ -24,7 +24,7 @@ use micro_time::Timing;
 use script_fields::fields_of;
 use std::alloc::{AllocError, Global};
 use transform_ops::TransformList;
-use value_blend::Opacity;
+use value_blend::{Blend, Opacity};
 
 /// A script has at most so many bytes.
 pub const MOST_BYTES: usize = 1 << 20;
@@ -121,7 +121,7 @@ fn key_at<V: KeyValue>(
     most: u64,
     place: Place<'_>,
 ) -> Result<(Key<V>, Place<'_>), ScriptFault>
-    requires { most ≤ longest }
+    requires { most ≤ says.longest }
     ensures given { Gives (λ x. (x.0, left_at x.1)) result
         (read.line_said (says.key_said V.said least most) (left_at place.entry)) }
     ensures within { IfOk result (λ x. (least ≤ x.0.time) × (x.0.time ≤ most)) }
@@ -211,7 +211,7 @@ fn transform_curve_at(
 
 // A curve through so many keys.
 #[tactic(auto, unfolding(crate::specs::Reading::keyframes_at))]
-fn keyframes_at<V: KeyValue>(
+fn keyframes_at<V: KeyValue + Blend>(
     alloc: Global,
     count: usize,
     easing: Easing,
@@ -230,8 +230,8 @@ fn keyframes_at<V: KeyValue>(
 }
 
 // The curve through keys that make one.
-fn curve_through<V: Drop>(keys: Vec<Key<V>>, easing: Easing) -> Curve<V>
-    requires short { All (λ key. key.time ≤ longest) keys.items }
+fn curve_through<V: Blend + Drop>(keys: Vec<Key<V>>, easing: Easing) -> Curve<V>
+    requires short { All (λ key. key.time ≤ says.longest) keys.items }
     requires taken { curve_refusal keys.items ≡ None }
     ensures parts { result ≡ keyframes keys.items easing }
     ensures lasts { (1 ≤ duration_of result) × (duration_of result ≤ 2 ^ 36) }

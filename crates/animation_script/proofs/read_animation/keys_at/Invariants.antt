@@ -1,5 +1,5 @@
 use Rattle.std.proofs.Common.{◌≡◌, ◌≤◌, ◌-◌}
-use Rattle.curve_keys.specs.Curves.{longest}
+use Rattle.animation_script.specs.Animated.{longest}
 use Rattle.animation_script.specs.Refusals.{left_at}
 use Rattle.animation_script.specs.Reading.{keys_from}
 use Rattle.animation_script.proofs.Keys.{onto_keys}
