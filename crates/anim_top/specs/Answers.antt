@@ -1,4 +1,4 @@
--- What the program answers: which arguments it knows, and the status and the text for the bytes that it read.
+-- What the program answers: which commands it knows, and the status and the text for the bytes that it read.
 use Rattle.std.specs.Prelude.{◌≡◌, ℕ, Bool, false, List, [], ◌∷◌, ◌++◌, Result, Ok, Err, codes}
 use Rattle.std.specs.Fmt.{decimal}
 use Rattle.std.specs.Str.{bytes_eq}
@@ -12,11 +12,11 @@ use Rattle.word_machine.specs.Texts.{line, report_text}
 use Rattle.anim_top.specs.declared.status.Status.{Status}
 use Rattle.anim_top.specs.declared.status.Status.TheVariants.{Done, Refused}
 
--- The arguments are a form that the program knows: `replay` alone.
-abbrev pub is_form : List (List ℕ) → Bool
-is_form [] = false
-is_form (argument ∷ []) = bytes_eq argument (codes "replay")
-is_form (argument ∷ other ∷ more) = false
+-- The arguments are a command that the program knows: `replay` alone.
+abbrev pub is_command : List (List ℕ) → Bool
+is_command [] = false
+is_command (argument ∷ []) = bytes_eq argument (codes "replay")
+is_command (argument ∷ other ∷ more) = false
 
 -- These bytes are refused at this line, for this cause.
 abbrev pub IsRefusedAt : List ℕ → ℕ → Cause → Type 0

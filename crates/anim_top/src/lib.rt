@@ -6,11 +6,13 @@
 
 mod answer;
 pub mod commands;
+pub mod hooks;
 mod intake;
 mod outlet;
 pub mod status;
 
 pub use commands::{command, plain_command};
+pub use hooks::Hooks;
 pub use status::Status;
 
 #[cfg(test)]

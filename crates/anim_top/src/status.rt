@@ -7,7 +7,7 @@ use animation_script::Cause;
 pub enum Status {
     /// The whole output was written.
     Done,
-    /// The arguments are no form that the program knows. Nothing was read or written.
+    /// The arguments are no command that the program knows. Nothing was read or written.
     Usage,
     /// The script is refused at this line, for this cause, and the refusal was written.
     Refused { line: u32, cause: Cause },

@@ -1,8 +1,11 @@
 ghost use Rattle.std.specs.Prelude.{◌≢◌, IfOk};
 
 use super::*;
+use anim_delegate::{Delegate, Policy};
+use anim_names::AnimEvent;
 use animation_script::Cause;
-use edge_io::{MemorySink, MemorySource, SteadySink, SteadySource};
+use easing_fixed::{Easing, Evaluator};
+use edge_io::{MemorySink, MemorySource, Sink, Source, SteadySink, SteadySource};
 use std::alloc::{AllocError, Global};
 use std::test::Fail;
 
@@ -111,13 +114,41 @@ fn arguments_of(alloc: Global, text: &str) -> Result<Vec<String>, AllocError> {
     Ok(arguments)
 }
 
+/// Calls `command` with the functions that the program stores.
+fn run<S: Source, K: Sink>(
+    rt: &HostRuntime,
+    arguments: &[String],
+    source: &mut S,
+    sink: &mut K,
+) -> Status {
+    let hooks = Hooks {
+        delegate: Delegate::new(Policy::verdict_on),
+        evaluator: Evaluator::new(Easing::value),
+    };
+    command(rt, rt.alloc(), arguments, source, sink, &hooks)
+}
+
+/// Calls `plain_command` with closures as the stored functions.
+fn run_plainly<S: Source, K: Sink>(
+    alloc: Global,
+    arguments: &[String],
+    source: &mut S,
+    sink: &mut K,
+) -> Status {
+    let hooks = Hooks {
+        delegate: Delegate::new(|policy: Policy, event: &AnimEvent| policy.verdict_on(event)),
+        evaluator: Evaluator::new(|easing: &Easing, p: u32| easing.value(p)),
+    };
+    plain_command(alloc, arguments, source, sink, &hooks)
+}
+
 /// Replays the bytes, and gives the status and what was written.
 fn replayed(rt: &HostRuntime, bytes: &[u8]) -> Result<(Status, Vec<u8>), AllocError> {
     let alloc = rt.alloc();
     let arguments = arguments_of(alloc, "replay")?;
     let mut source = MemorySource::new(bytes.to_vec(alloc)?, 100, Vec::new(alloc));
     let mut sink = MemorySink::new(alloc, 64, Vec::new(alloc))?;
-    let status = command(rt, alloc, arguments.as_slice(), &mut source, &mut sink);
+    let status = run(rt, arguments.as_slice(), &mut source, &mut sink);
     Ok((status, sink.taken().to_vec(alloc)?))
 }
 
@@ -242,7 +273,7 @@ fn a_source_that_fails_leaves_nothing_written(rt: HostRuntime) -> Result<(), Fai
         let bytes = SCRIPT.as_bytes().to_vec(alloc)?;
         let mut source = MemorySource::new(bytes, 100, failing_calls);
         let mut sink = MemorySink::new(alloc, 64, Vec::new(alloc))?;
-        let status = plain_command(alloc, arguments.as_slice(), &mut source, &mut sink);
+        let status = run_plainly(alloc, arguments.as_slice(), &mut source, &mut sink);
         if failing < 4 {
             assert_eq!(rt; status.number(), 4, "at call {failing}");
             assert_eq!(rt; sink.taken(), b"".as_slice());
@@ -261,7 +292,7 @@ fn a_sink_that_fails_took_a_front_of_the_report(rt: HostRuntime) -> Result<(), F
     for failing in 0..5 {
         let mut source = SteadySource::new(SCRIPT.as_bytes().to_vec(alloc)?);
         let mut sink = MemorySink::new(alloc, 64, vec![in alloc; failing]?)?;
-        let status = plain_command(alloc, arguments.as_slice(), &mut source, &mut sink);
+        let status = run_plainly(alloc, arguments.as_slice(), &mut source, &mut sink);
         let taken = sink.taken();
         assert!(rt; REPORT.as_bytes().starts_with(taken));
         if failing < 4 {
@@ -276,13 +307,13 @@ fn a_sink_that_fails_took_a_front_of_the_report(rt: HostRuntime) -> Result<(), F
 }
 
 #[test]
-fn arguments_that_are_no_form_touch_nothing(rt: HostRuntime) -> Result<(), Fail> {
+fn arguments_that_are_no_command_touch_nothing(rt: HostRuntime) -> Result<(), Fail> {
     let alloc = rt.alloc();
     let mut source = SteadySource::new(SCRIPT.as_bytes().to_vec(alloc)?);
     let mut sink = SteadySink::new(alloc, 201)?;
     for text in ["", "replay x", "gen", "gen 0", "gen 201", "gen 01", "Run"] {
         let arguments = arguments_of(alloc, text)?;
-        let status = command(&rt, alloc, arguments.as_slice(), &mut source, &mut sink);
+        let status = run(&rt, arguments.as_slice(), &mut source, &mut sink);
         assert_eq!(rt; status.number(), 2, "for {text:?}");
         assert_eq!(rt; sink.taken(), b"".as_slice());
     }
@@ -301,7 +332,11 @@ fn steadily(
     ensures { IfOk result (λ status. (status ≢ Status.ReadFault) × (status ≢ Status.WriteFault)) }
 {
     let arguments = arguments_of(rt.alloc(), "replay")?;
-    Ok(command(rt, rt.alloc(), arguments.as_slice(), source, sink))
+    let hooks = Hooks {
+        delegate: Delegate::new(Policy::verdict_on),
+        evaluator: Evaluator::new(Easing::value),
+    };
+    Ok(command(rt, rt.alloc(), arguments.as_slice(), source, sink, &hooks))
 }
 
 #[test]

@@ -1,7 +1,9 @@
 //! `cctick` replays the script on standard input and writes its report to standard output.
 #![tactic(auto)]
 
-use anim_top::{Status, command};
+use anim_delegate::{Delegate, Policy};
+use anim_top::{Hooks, Status, command};
+use easing_fixed::{Easing, Evaluator};
 use edge_io::{StdSink, StdSource};
 use std::alloc::AllocError;
 use std::io::ErrorKind;
@@ -25,7 +27,18 @@ fn answer(rt: &HostRuntime) -> Status {
     };
     let mut source = StdSource::new(rt.stdin());
     let mut sink = StdSink::new(rt.stdout());
-    command(rt, rt.alloc(), arguments.as_slice(), &mut source, &mut sink)
+    let hooks = Hooks {
+        delegate: Delegate::new(Policy::verdict_on),
+        evaluator: Evaluator::new(Easing::value),
+    };
+    command(
+        rt,
+        rt.alloc(),
+        arguments.as_slice(),
+        &mut source,
+        &mut sink,
+        &hooks,
+    )
 }
 
 /// The arguments after the program's name. One that is not UTF-8 is an error.
