@@ -1,10 +1,13 @@
-ghost use Rattle.std.specs.Prelude.{◌≢◌, IfOk};
+ghost use Rattle.std.specs.Prelude.{◌≡◌, ◌≢◌, IfOk};
+ghost use Rattle.anim_delegate.specs.Delegates.{MayAsk, FollowsTable};
+ghost use Rattle.easing_fixed.specs.Evaluators.{MayEase, Eases};
+ghost use Rattle.edge_io.specs.Edges.{HasRisen};
 
 use super::*;
-use anim_delegate::{Delegate, Policy};
+use anim_delegate::{Delegate, Policy, VerdictFunction};
 use anim_names::AnimEvent;
 use animation_script::Cause;
-use easing_fixed::{Easing, Evaluator};
+use easing_fixed::{Easing, EasingFunction, Evaluator};
 use edge_io::{MemorySink, MemorySource, Sink, Source, SteadySink, SteadySource};
 use std::alloc::{AllocError, Global};
 use std::test::Fail;
@@ -114,18 +117,68 @@ fn arguments_of(alloc: Global, text: &str) -> Result<Vec<String>, AllocError> {
     Ok(arguments)
 }
 
+/// Calls `command` with these functions as hooks.
+fn command_with<S: Source, K: Sink, F: VerdictFunction + Drop, E: EasingFunction + Drop>(
+    rt: &HostRuntime,
+    arguments: &[String],
+    source: &mut S,
+    sink: &mut K,
+    verdict: F,
+    ease: E,
+) -> Status
+    requires may_be_asked { MayAsk (F.asks verdict) }
+    requires follows_the_table { FollowsTable (F.answers verdict) }
+    requires may_ease { MayEase (E.asks ease) }
+    requires eases { Eases (E.answers ease) }
+    ensures read_fault { result ≡ Status.ReadFault → HasRisen (S.faults source.old) (S.faults source.new) }
+    ensures write_fault { result ≡ Status.WriteFault → HasRisen (K.faults sink.old) (K.faults sink.new) }
+{
+    let hooks = Hooks {
+        delegate: Delegate::new(verdict),
+        evaluator: Evaluator::new(ease),
+    };
+    command(rt, rt.alloc(), arguments, source, sink, &hooks)
+}
+
+/// Calls `plain_command` with these functions as hooks.
+fn plain_command_with<S: Source, K: Sink, F: VerdictFunction + Drop, E: EasingFunction + Drop>(
+    alloc: Global,
+    arguments: &[String],
+    source: &mut S,
+    sink: &mut K,
+    verdict: F,
+    ease: E,
+) -> Status
+    requires may_be_asked { MayAsk (F.asks verdict) }
+    requires follows_the_table { FollowsTable (F.answers verdict) }
+    requires may_ease { MayEase (E.asks ease) }
+    requires eases { Eases (E.answers ease) }
+{
+    let hooks = Hooks {
+        delegate: Delegate::new(verdict),
+        evaluator: Evaluator::new(ease),
+    };
+    plain_command(alloc, arguments, source, sink, &hooks)
+}
+
 /// Calls `command` with the functions that the program stores.
 fn run<S: Source, K: Sink>(
     rt: &HostRuntime,
     arguments: &[String],
     source: &mut S,
     sink: &mut K,
-) -> Status {
-    let hooks = Hooks {
-        delegate: Delegate::new(Policy::verdict_on),
-        evaluator: Evaluator::new(Easing::value),
-    };
-    command(rt, rt.alloc(), arguments, source, sink, &hooks)
+) -> Status
+    ensures read_fault { result ≡ Status.ReadFault → HasRisen (S.faults source.old) (S.faults source.new) }
+    ensures write_fault { result ≡ Status.WriteFault → HasRisen (K.faults sink.old) (K.faults sink.new) }
+{
+    command_with(
+        rt,
+        arguments,
+        source,
+        sink,
+        Policy::verdict_on,
+        Easing::value,
+    )
 }
 
 /// Calls `plain_command` with closures as the stored functions.
@@ -135,11 +188,9 @@ fn run_plainly<S: Source, K: Sink>(
     source: &mut S,
     sink: &mut K,
 ) -> Status {
-    let hooks = Hooks {
-        delegate: Delegate::new(|policy: Policy, event: &AnimEvent| policy.verdict_on(event)),
-        evaluator: Evaluator::new(|easing: &Easing, p: u32| easing.value(p)),
-    };
-    plain_command(alloc, arguments, source, sink, &hooks)
+    let verdict = |policy: Policy, event: &AnimEvent| policy.verdict_on(event);
+    let ease = |easing: &Easing, p: u32| easing.value(p);
+    plain_command_with(alloc, arguments, source, sink, verdict, ease)
 }
 
 /// Replays the bytes, and gives the status and what was written.
@@ -332,11 +383,7 @@ fn steadily(
     ensures { IfOk result (λ status. (status ≢ Status.ReadFault) × (status ≢ Status.WriteFault)) }
 {
     let arguments = arguments_of(rt.alloc(), "replay")?;
-    let hooks = Hooks {
-        delegate: Delegate::new(Policy::verdict_on),
-        evaluator: Evaluator::new(Easing::value),
-    };
-    Ok(command(rt, rt.alloc(), arguments.as_slice(), source, sink, &hooks))
+    Ok(run(rt, arguments.as_slice(), source, sink))
 }
 
 #[test]

@@ -1,9 +1,12 @@
 //! `cctick` replays the script on standard input and writes its report to standard output.
 #![tactic(auto)]
 
-use anim_delegate::{Delegate, Policy};
+ghost use Rattle.anim_delegate.specs.Delegates.{MayAsk, FollowsTable};
+ghost use Rattle.easing_fixed.specs.Evaluators.{MayEase, Eases};
+
+use anim_delegate::{Delegate, Policy, VerdictFunction};
 use anim_top::{Hooks, Status, command};
-use easing_fixed::{Easing, Evaluator};
+use easing_fixed::{Easing, EasingFunction, Evaluator};
 use edge_io::{StdSink, StdSource};
 use std::alloc::AllocError;
 use std::io::ErrorKind;
@@ -25,20 +28,28 @@ fn answer(rt: &HostRuntime) -> Status {
         Err(error) if error.kind() == ErrorKind::OutOfMemory => return Status::NoMemory,
         Err(_) => return Status::Usage,
     };
+    answer_with(rt, arguments.as_slice(), Policy::verdict_on, Easing::value)
+}
+
+/// Answers the arguments over the standard streams, with these two functions as hooks.
+fn answer_with<F: VerdictFunction + Drop, E: EasingFunction + Drop>(
+    rt: &HostRuntime,
+    arguments: &[String],
+    verdict: F,
+    ease: E,
+) -> Status
+    requires may_be_asked { MayAsk (F.asks verdict) }
+    requires follows_the_table { FollowsTable (F.answers verdict) }
+    requires may_ease { MayEase (E.asks ease) }
+    requires eases { Eases (E.answers ease) }
+{
+    let hooks = Hooks {
+        delegate: Delegate::new(verdict),
+        evaluator: Evaluator::new(ease),
+    };
     let mut source = StdSource::new(rt.stdin());
     let mut sink = StdSink::new(rt.stdout());
-    let hooks = Hooks {
-        delegate: Delegate::new(Policy::verdict_on),
-        evaluator: Evaluator::new(Easing::value),
-    };
-    command(
-        rt,
-        rt.alloc(),
-        arguments.as_slice(),
-        &mut source,
-        &mut sink,
-        &hooks,
-    )
+    command(rt, rt.alloc(), arguments, &mut source, &mut sink, &hooks)
 }
 
 /// The arguments after the program's name. One that is not UTF-8 is an error.
