@@ -43,7 +43,11 @@ fn expect_rows_by<E: EasingFunction + Drop>(
     let evaluator = Evaluator::new(function);
     for (time, want) in rows {
         assert!(rt; *time <= curve.duration());
-        assert_eq!(rt; curve.value_at(*time, &evaluator)?.get(), *want, "at {time}");
+        assert_eq!(rt;
+            curve.value_at(*time, &evaluator)?.get(),
+            *want,
+            "at {time}"
+        );
     }
     Ok(())
 }

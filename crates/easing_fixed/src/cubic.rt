@@ -2,8 +2,9 @@ ghost use Rattle.std.specs.Prelude.{◌≡◌, ◌*◌, ◌≤◌, pos, unsigned
 ghost use Rattle.std.specs.Result.{result_err};
 ghost use Rattle.easing_fixed.specs.Cubics.{cubic_parts, cubic_refusal, IsCubic, is_x, is_y, cubic_value};
 
-use crate::curve::{self, UNIT};
-use crate::{END, EasingFault, LARGEST_Y, ONE};
+use crate::search::quick_place;
+use crate::start::{START_COUNT, starts};
+use crate::{END, EasingFault, LARGEST_Y, ONE, curve};
 use std::marker::Model;
 
 /// A cubic Bézier curve from (0, 0) to (1, 1) by its two control points, after CSS Easing Functions Level 1.
@@ -11,25 +12,38 @@ use std::marker::Model;
 /// The numbers of the control points are in millionths. The curve gives a progress p the height at which it is p
 /// far across. That the place on the curve is a whole number of steps of which there are [`ONE`], the greatest one
 /// that is not past p, and that the height is rounded down, are this project's own.
-#[derive(Clone, Copy, Debug, PartialEq, Eq, Hash)]
+#[derive(Clone, Copy)]
+#[derive_where(Debug, PartialEq, Eq, Hash)]
 pub struct CubicShape {
     x1: u32,
     y1: i32,
     x2: u32,
     y2: i32,
+    // How far across the curve is at each end of its intervals.
+    #[derive_where(skip)]
+    starts: [u128; START_COUNT],
 }
 
 impl Model for CubicShape {
     ghost use Rattle.std.specs.Prelude.{pos, unsigned_abs};
+    ghost use Rattle.std.specs.Prelude.{◌≡◌};
     ghost use Rattle.easing_fixed.specs.Cubics.{CubicParts, cubic_parts, IsCubic};
+    ghost use Rattle.easing_fixed.specs.Starts.{starts_of};
 
     ghost Value = { CubicParts };
 
     ghost view = { λ c. cubic_parts (pos c.x1) c.y1 (pos c.x2) c.y2 };
 
-    ghost invariant = { λ c. IsCubic (cubic_parts (pos c.x1) c.y1 (pos c.x2) c.y2) };
+    ghost invariant = { λ c.
+        IsCubic (cubic_parts (pos c.x1) c.y1 (pos c.x2) c.y2) × (c.starts ≡ starts_of c.x1 c.x2) };
 
-    ghost inverse = { λ c. record { x1 = unsigned_abs c.x1; y1 = c.y1; x2 = unsigned_abs c.x2; y2 = c.y2 } };
+    ghost inverse = { λ c. record {
+      x1 = unsigned_abs c.x1;
+      y1 = c.y1;
+      x2 = unsigned_abs c.x2;
+      y2 = c.y2;
+      starts = starts_of (unsigned_abs c.x1) (unsigned_abs c.x2);
+    } };
 }
 
 impl CubicShape {
@@ -43,7 +57,7 @@ impl CubicShape {
         let x2 = x_of(x2)?;
         let y1 = y_of(y1)?;
         let y2 = y_of(y2)?;
-        Ok(CubicShape { x1, y1, x2, y2 })
+        Ok(CubicShape::of(x1, y1, x2, y2))
     }
 
     // The curve with these control points.
@@ -51,7 +65,13 @@ impl CubicShape {
         requires { IsCubic (cubic_parts (pos x1) y1 (pos x2) y2) }
         ensures { result ≡ cubic_parts (pos x1) y1 (pos x2) y2 }
     {
-        CubicShape { x1, y1, x2, y2 }
+        CubicShape {
+            x1,
+            y1,
+            x2,
+            y2,
+            starts: starts(x1, x2),
+        }
     }
 
     /// How far across the first control point is.
@@ -92,8 +112,19 @@ impl CubicShape {
         ensures value { result ≡ cubic_value self.now p }
         ensures size { unsigned_abs result ≤ 10 * ONE }
     {
-        let place = curve::place(self.x1, self.x2, p);
-        curve::height(self.y1, self.y2, place).div_euclid(i128::from(UNIT)) as i64
+        curve::level(self.y1, self.y2, curve::place(self.x1, self.x2, p))
+    }
+
+    /// The same as [`CubicShape::value`], several times as fast: the start table leaves a sixteenth of the curve to
+    /// search, and each look aims at where the curve should be as far across as p.
+    #[tactic(auto, unfolding(crate::specs::Cubics::cubic_value))]
+    pub fn quick_value(&self, p: u32) -> i64
+        requires { p ≤ ONE }
+        ensures value { result ≡ cubic_value self.now p }
+        ensures size { unsigned_abs result ≤ 10 * ONE }
+    {
+        let place = quick_place(self.x1, self.x2, &self.starts, p);
+        curve::level(self.y1, self.y2, place)
     }
 }
 

@@ -106,4 +106,17 @@ impl Easing {
             Easing::Cubic(shape) => shape.value(p),
         }
     }
+
+    /// The same as [`Easing::value`], faster where the easing is a cubic.
+    #[tactic(auto, unfolding(crate::specs::Easings::eased))]
+    pub fn quick_value(&self, p: u32) -> i64
+        requires { p ≤ ONE }
+        ensures value { result ≡ eased self.now p }
+        ensures size { unsigned_abs result ≤ 10 * ONE }
+    {
+        match self {
+            Easing::Cubic(shape) => shape.quick_value(p),
+            Easing::Linear | Easing::Steps(_) => self.value(p),
+        }
+    }
 }

@@ -12,6 +12,8 @@ pub mod evaluator;
 pub mod fault;
 pub mod laws;
 pub mod position;
+mod search;
+mod start;
 pub mod step;
 pub mod worked;
 

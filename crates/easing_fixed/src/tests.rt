@@ -12,6 +12,7 @@ fn expect_rows(rt: &impl Abort, easing: &Easing, rows: &[(u32, i64)]) {
     for (p, want) in rows {
         assert!(rt; *p <= ONE);
         assert_eq!(rt; easing.value(*p), *want, "at {p}");
+        assert_eq!(rt; easing.quick_value(*p), *want, "at {p}");
     }
 }
 
@@ -36,7 +37,7 @@ fn expect_eased<E: EasingFunction + Send + Sync + Drop>(rt: &impl Abort, functio
 #[test]
 fn an_evaluator_calls_the_stored_function(rt: HostRuntime) {
     expect_eased(&rt, Easing::value);
-    expect_eased(&rt, |easing: &Easing, p: u32| easing.value(p));
+    expect_eased(&rt, |easing: &Easing, p: u32| easing.quick_value(p));
 }
 
 #[test]

@@ -5,8 +5,10 @@ ghost use Rattle.micro_time.specs.Timings.{timing_parts, refusal, IsTiming, phas
 ghost use Rattle.micro_time.specs.Timings.{elapsed, covered, total, progress_in, skipped, position_in};
 ghost use Rattle.micro_time.specs.Timings.{one_iteration, is_last_end, iteration_at, part_at, time_at};
 
-use crate::{Direction, Fill, Iterations, Phase, TimingFault, TimingField};
-use crate::{LARGEST_OFFSET, LARGEST_RATE, LAST_ITERATION_START, LONGEST_DURATION, MOST_ITERATIONS};
+use crate::{
+    Direction, Fill, Iterations, LARGEST_OFFSET, LARGEST_RATE, LAST_ITERATION_START,
+    LONGEST_DURATION, MOST_ITERATIONS, Phase, TimingFault, TimingField,
+};
 use std::marker::Model;
 
 /// When an animation runs, and in which order it runs through its curve.
