@@ -28,7 +28,12 @@ fn answer(rt: &HostRuntime) -> Status {
         Err(error) if error.kind() == ErrorKind::OutOfMemory => return Status::NoMemory,
         Err(_) => return Status::Usage,
     };
-    answer_with(rt, arguments.as_slice(), Policy::verdict_on, Easing::value)
+    answer_with(
+        rt,
+        arguments.as_slice(),
+        Policy::verdict_on,
+        Easing::quick_value,
+    )
 }
 
 /// Answers the arguments over the standard streams, with these two functions as hooks.
