@@ -2,7 +2,8 @@
 use Rattle.std.proofs.Common.{◌≡◌, ℕ, suc, ◌+◌, ◌-◌, ◌<◌, ◌≤◌, List, [], ◌∷◌, ◌++◌, Some, None, refl, ap, sym, ◌∙◌, append_assoc, arith}
 use Rattle.std.proofs.lemmas.List.{append-nil}
 use Rattle.animation_script.specs.Refusals.{Left}
-use Rattle.animation_script.specs.Animations.{NeverFall, latest}
+use Rattle.animation_script.specs.Animations.{NeverFall}
+use Rattle.anim_timeline.specs.declared.TheConstants.{LAST_TIME}
 use Rattle.animation_script.specs.Reading.{tick_at, ticks_from, with_front}
 
 pub goes_on : (front : List ℕ) (most i last time : ℕ) (left after : Left) (total : List ℕ × Left) → i < most → Some (time, after) ≡ tick_at last left
@@ -38,7 +39,7 @@ abbrev pub last_of : ℕ → List ℕ → ℕ
 last_of before [] = before
 last_of before (t ∷ ts) = last_of t ts
 
-pub NeverFall-push : (before : ℕ) (ts : List ℕ) (t : ℕ) → NeverFall before ts → last_of before ts ≤ t → t ≤ latest → NeverFall before (ts ++ t ∷ [])
+pub NeverFall-push : (before : ℕ) (ts : List ℕ) (t : ℕ) → NeverFall before ts → last_of before ts ≤ t → t ≤ LAST_TIME → NeverFall before (ts ++ t ∷ [])
 NeverFall-push before [] t h le late = (le, late, tt)
 NeverFall-push before (u ∷ us) t h le late = (h.0, h.1, NeverFall-push u us t h.2 le late)
 

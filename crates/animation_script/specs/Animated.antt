@@ -17,7 +17,7 @@ use Rattle.script_fields.specs.Words.{property_said, direction_said, fill_said, 
 use Rattle.script_fields.specs.Easings.{easing_said}
 use Rattle.script_fields.specs.Lists.{list_said}
 use Rattle.animation_script.specs.declared.model_line.ModelLine.{ModelLine}
-use Rattle.animation_script.specs.Animations.{latest}
+use Rattle.anim_timeline.specs.declared.TheConstants.{LAST_TIME}
 
 -- what follows from a field that says something
 infixl 10 ◌>>=◌
@@ -136,5 +136,5 @@ key_said says least most other = None
 
 -- `tick TIME`, where no time is below the one before
 abbrev pub tick_said : ℕ → List (List ℕ) → Option ℕ
-tick_said last (name ∷ time ∷ []) = if bytes_eq name (codes "tick") then natural_within last latest time else None
+tick_said last (name ∷ time ∷ []) = if bytes_eq name (codes "tick") then natural_within last LAST_TIME time else None
 tick_said last other = None

@@ -1,13 +1,15 @@
 -- The form of script that is served: one element, which one keyframe model animates from the first tick on.
-use Rattle.std.specs.Prelude.{◌≡◌, ℕ, ◌+◌, ◌≤◌, ◌^◌, List, [], ◌∷◌, ◌++◌, length, map, replicate, None}
+use Rattle.std.specs.Prelude.{◌≡◌, ℕ, ◌+◌, ◌-◌, ◌≤◌, List, [], ◌∷◌, ◌++◌, length, map, replicate, None}
 use Rattle.anim_names.specs.declared.lane.Lane.{Lane}
 use Rattle.anim_names.specs.declared.lane.Lane.TheVariants.{Main, Compositor}
+use Rattle.anim_names.specs.declared.limit.TheConstants.{MOST_STEPS}
+use Rattle.anim_timeline.specs.declared.TheConstants.{LAST_TIME}
 use Rattle.anim_delegate.specs.declared.policy.Policy.{Policy}
 use Rattle.micro_time.specs.Timings.{TimingParts, refusal}
 use Rattle.value_blend.specs.Blends.{IsOpacity}
 use Rattle.transform_ops.specs.declared.op.TransformOp.{TransformOp}
 use Rattle.transform_ops.specs.Lists.{IsList}
-use Rattle.keyframe_model.specs.Models.{Spec, PropertyCurve, curve_duration, model_parts}
+use Rattle.keyframe_model.specs.Models.{Spec, PropertyCurve, IsPropertyCurve, curve_duration, model_parts}
 use Rattle.tree_commit.specs.declared.runs.compositor_step.CompositorStep.{CompositorStep}
 use Rattle.tree_commit.specs.declared.runs.compositor_step.CompositorStep.TheVariants.{Pull, Activate, Tick}
 use Rattle.tree_commit.specs.Edits.{AddElement, AddModel, AddTimeline}
@@ -29,24 +31,21 @@ animation_parts opacity transform timing policy curve ticks =
 
 -- ---- ranges
 
--- the time of the last tick that there may be, in microseconds
-abbrev pub latest : ℕ
-latest = 2 ^ 50
-
--- a lane has at most 10,000 steps, and two of the compositor's are no ticks
+-- two of the compositor's steps are no ticks
 abbrev pub most_ticks : ℕ
-most_ticks = 9998
+most_ticks = MOST_STEPS - 2
 
 -- times that never fall, the first of them not below this one
 abbrev pub NeverFall : ℕ → List ℕ → Type 0
 NeverFall last [] = Unit {0}
-NeverFall last (t ∷ ts) = (last ≤ t) × (t ≤ latest) × NeverFall t ts
+NeverFall last (t ∷ ts) = (last ≤ t) × (t ≤ LAST_TIME) × NeverFall t ts
 
 pub record IsAnimation (animation : Animation) : Type 0 where
   pub opacity : IsOpacity animation.opacity
   pub transform : IsList animation.transform
   pub timing : refusal animation.timing ≡ None
   pub duration : animation.timing.duration ≡ curve_duration animation.curve
+  pub curve : IsPropertyCurve animation.curve
   pub few : length animation.ticks ≤ most_ticks
   pub times : NeverFall 0 animation.ticks
 

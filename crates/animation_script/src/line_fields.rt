@@ -2,11 +2,12 @@
 
 ghost use Rattle.std.specs.Prelude.{◌≡◌, ◌<◌, ◌≤◌, map, IfOk, IfSome};
 ghost use Rattle.animation_script.specs.Animated as said;
-ghost use Rattle.animation_script.specs.Animations.{latest};
+ghost use Rattle.anim_timeline.specs.declared.TheConstants.{LAST_TIME};
 
 use crate::key_value::KeyValue;
 use crate::model_line::ModelLine;
 use anim_names::Property;
+use anim_timeline::LAST_TIME;
 use curve_keys::Key;
 use micro_time::{Direction, Fill, Iterations, Timing};
 use script_fields::words::{
@@ -16,9 +17,6 @@ use script_fields::{easing_said, integer_within, is, list_said, natural_within};
 use std::alloc::{AllocError, Global};
 use transform_ops::TransformList;
 use value_blend::Opacity;
-
-/// The last tick that there may be: 2^50.
-const LATEST: u64 = 1 << 50;
 
 /// The own opacity and transform of the element, as `element 1 OPACITY LIST`.
 pub fn element_said(
@@ -269,10 +267,10 @@ fn key_of<V: KeyValue>(
 /// The time of a tick, as `tick TIME`, where it is not below the last one.
 pub fn tick_said(last: u64, fields: &[&[u8]]) -> Option<u64>
     ensures value { result ≡ said.tick_said last (map (λ field. field.now) fields.now) }
-    ensures within { IfSome result (λ time. (last ≤ time) × (time ≤ latest)) }
+    ensures within { IfSome result (λ time. (last ≤ time) × (time ≤ LAST_TIME)) }
 {
     match fields {
-        [name, time] if is(name, "tick") => natural_within(time, last, LATEST),
+        [name, time] if is(name, "tick") => natural_within(time, last, LAST_TIME),
         _ => None,
     }
 }

@@ -5,7 +5,8 @@ ghost use Rattle.curve_keys.specs.Curves.{curve_refusal, duration_of, keyframes}
 ghost use Rattle.keyframe_model.specs.Models.{curve_duration, model_parts};
 ghost use Rattle.keyframe_model.specs.Views.{curve_of};
 ghost use Rattle.animation_script.specs.Refusals.{Gives, left_at};
-ghost use Rattle.animation_script.specs.Animations.{Animation, NeverFall, latest, most_ticks};
+ghost use Rattle.animation_script.specs.Animations.{Animation, NeverFall, most_ticks};
+ghost use Rattle.anim_timeline.specs.declared.TheConstants.{LAST_TIME};
 ghost use Rattle.animation_script.specs.Animated as says;
 ghost use Rattle.animation_script.specs.Reading as read;
 ghost use Rattle.animation_script.specs.Spelling.{Spells};
@@ -315,7 +316,7 @@ fn tick_at(
 ) -> Result<Option<(u64, Place<'_>)>, AllocError>
     ensures found { IfOk result (λ found. option_map (λ x. (x.0, left_at x.1)) found
         ≡ read.tick_at last (left_at place.entry)) }
-    ensures within { IfOk result (λ found. IfSome found (λ x. (last ≤ x.0) × (x.0 ≤ latest))) }
+    ensures within { IfOk result (λ found. IfSome found (λ x. (last ≤ x.0) × (x.0 ≤ LAST_TIME))) }
 {
     let Some((line, after)) = place.next_line() else {
         return Ok(None);
