@@ -1,4 +1,10 @@
+pub mod Among
+pub mod Births
+pub mod BookLemmas
 pub mod HearingLemmas
+pub mod Lines
+pub mod MainLemmas
+pub mod MainSteps
 pub mod NumberLemmas
 pub mod RunningLemmas
 pub mod WordLemmas
