@@ -1,10 +1,13 @@
 pub mod Among
 pub mod Births
 pub mod BookLemmas
+pub mod FinishFits
 pub mod HearingLemmas
 pub mod Lines
 pub mod MainLemmas
 pub mod MainSteps
+pub mod MarkFacts
+pub mod MarksFit
 pub mod NumberLemmas
 pub mod RunningLemmas
 pub mod WordLemmas

@@ -1,3 +1,5 @@
+pub mod Ends
+pub mod Groups
 pub mod Laws
 pub mod Lists
 pub mod Sizes
