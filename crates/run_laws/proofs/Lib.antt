@@ -1,3 +1,4 @@
+pub mod ActivationFits
 pub mod Among
 pub mod Births
 pub mod BookLemmas
