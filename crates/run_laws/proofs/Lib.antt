@@ -11,4 +11,5 @@ pub mod MarkFacts
 pub mod MarksFit
 pub mod NumberLemmas
 pub mod RunningLemmas
+pub mod StartFits
 pub mod WordLemmas
