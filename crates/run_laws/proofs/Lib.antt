@@ -10,6 +10,7 @@ pub mod MainSteps
 pub mod MarkFacts
 pub mod MarksFit
 pub mod NumberLemmas
+pub mod RunFits
 pub mod RunningLemmas
 pub mod StartFits
 pub mod WordLemmas
