@@ -12,7 +12,7 @@ use Rattle.tree_commit.specs.declared.edits.refusal.EditRefusal.TheVariants.{Ele
 use Rattle.tree_commit.specs.Trees.{TreeLists, Look, Element, Clock, Committed}
 use Rattle.tree_commit.specs.Edits.{Change, AddElement, RemoveElement, SetOpacity, SetTransform, AddTimeline, AddModel, RemoveModel, Book, is_in, without, with_look, edit_refusal, book_after, tree_after}
 use Rattle.run_laws.specs.Lists.{IsAmong}
-use Rattle.run_laws.specs.Sizes.{IsWithinLimits}
+use Rattle.run_laws.specs.MainTree.{IsWithinLimits}
 use Rattle.run_laws.proofs.Among.{among-append_cases, any-cases}
 use Rattle.run_laws.proofs.Births.{IsAccepted, accepted, not_refused}
 use Rattle.run_laws.proofs.Lines.{IsThin, thin_without}

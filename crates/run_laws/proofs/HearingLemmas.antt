@@ -9,7 +9,7 @@ use Rattle.anim_names.specs.declared.lane.Lane.{Lane}
 use Rattle.anim_names.specs.declared.lane.Lane.TheVariants.{Main, Compositor}
 use Rattle.tree_commit.specs.declared.runs.mark.Mark.{Mark}
 use Rattle.anim_names.specs.Lists.{BeginsWith}
-use Rattle.run_laws.specs.Laws.{HeardOnce, CountsAddUp, totals, batches, batch_of_step, batch_of_letter}
+use Rattle.run_laws.specs.Hearing.{HeardOnce, CountsAddUp, totals, batches, batch_of_step, batch_of_letter}
 use Rattle.tree_commit.specs.Marks.{event_of}
 use Rattle.tree_commit.specs.Scripts.{StepOfMain, EditStep, CommitStep, DrainStep, ScriptLists}
 use Rattle.tree_commit.specs.Runs.{Lanes, MainLane, beginning, after_letter, after, main_step, main_takes, after_drain, unheard_events, closing_report}

@@ -1,9 +1,14 @@
 -- How a model's marks follow one another: it starts once at most, ends once at most, and no mark stands after its end.
 use Rattle.std.specs.Prelude.{◌≡◌, ℕ, ◌≤◌, ◌==◌, Bool, false, not, ◌&&◌, IsTrue, List, ◌∷◌, ◌++◌, count_by}
 use Rattle.std.specs.List.{list_any}
+use Rattle.anim_names.specs.declared.lane.Lane.{Lane}
 use Rattle.tree_commit.specs.declared.runs.mark.Mark.{Mark}
 use Rattle.tree_commit.specs.declared.runs.mark.Mark.TheVariants.{Started, Finished, Aborted}
+use Rattle.tree_commit.specs.Trees.{has_model}
 use Rattle.tree_commit.specs.Marks.{model_of, starts, ends, starts_in, is_started, is_ended, is_running}
+use Rattle.tree_commit.specs.Runs.{Lanes}
+use Rattle.run_laws.specs.Lists.{IsAmong}
+use Rattle.run_laws.specs.Steps.{new_marks}
 
 -- ---- marks of a model
 
@@ -22,6 +27,14 @@ pub record EndsOnce (marks : List Mark) : Type 0 where
   pub ends : (id : ℕ) → count_by (ends id) marks ≤ 1
   pub two_marks : (id : ℕ) → count_by (λ mark. id == model_of mark) marks ≤ 2
   pub order : (before behind : List Mark) (mark : Mark) → marks ≡ before ++ mark ∷ behind → IsTrue (may_follow before mark)
+
+-- ---- aborts
+
+-- A model that a step aborts was in the commit that was active before it.
+abbrev pub AbortedWasActive : Lanes → Lane → Type 0
+AbortedWasActive lanes letter =
+    (model commit : ℕ) → IsAmong (Aborted model commit) (new_marks lanes letter)
+    → IsTrue (has_model lanes.compositor.active.tree model)
 
 -- ---- marks of a group
 

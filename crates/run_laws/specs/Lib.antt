@@ -1,5 +1,11 @@
+pub mod ActiveCommit
 pub mod Ends
+pub mod Follows
 pub mod Groups
-pub mod Laws
+pub mod Growth
+pub mod Hearing
 pub mod Lists
-pub mod Sizes
+pub mod MainTree
+pub mod Shown
+pub mod Steps
+pub mod Words

@@ -2,7 +2,10 @@
 
 ghost use Rattle.std.specs.Prelude.{◌≡◌, List, ◌++◌};
 ghost use Rattle.anim_names.specs.declared.lane.Lane.{Lane};
-ghost use Rattle.run_laws.specs.Laws.{CommitNumbersNeverFall, CountsAddUp, HeardOnce, MarksOnlyGrow, RunningIsActive};
+ghost use Rattle.run_laws.specs.ActiveCommit.{RunningIsActive};
+ghost use Rattle.run_laws.specs.Growth.{MarksOnlyGrow};
+ghost use Rattle.run_laws.specs.Hearing.{CountsAddUp, HeardOnce};
+ghost use Rattle.run_laws.specs.Shown.{CommitNumbersNeverFall};
 ghost use Rattle.tree_commit.specs.Runs.{Lanes, after, beginning, report_of};
 ghost use Rattle.tree_commit.specs.Scripts.{ScriptLists};
 
