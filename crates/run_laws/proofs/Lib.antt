@@ -3,6 +3,7 @@ pub mod Among
 pub mod Births
 pub mod BookLemmas
 pub mod FinishFits
+pub mod GroupLaws
 pub mod HearingLemmas
 pub mod Lines
 pub mod MainLemmas
@@ -13,4 +14,5 @@ pub mod NumberLemmas
 pub mod RunFits
 pub mod RunningLemmas
 pub mod StartFits
+pub mod StepLemmas
 pub mod WordLemmas

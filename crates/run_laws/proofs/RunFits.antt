@@ -207,3 +207,7 @@ begins_fitting script h = record {
 -- Along every word of a well-formed script.
 pub run_fits : (script : ScriptLists) → IsWellFormed script → (word : List Lane) → RunFits script (after (beginning script) word)
 run_fits script h word = word_fits script (beginning script) word (one_script script h) (begins_fitting script h)
+
+-- The same after one more step.
+pub run_after : (script : ScriptLists) → IsWellFormed script → (word : List Lane) (letter : Lane) → RunFits script (after_letter (after (beginning script) word) letter)
+run_after script h word letter = letter_fits script (after (beginning script) word) letter (one_script script h) (run_fits script h word)
