@@ -24,9 +24,9 @@ use Rattle.run_laws.proofs.StepLemmas.{IsNewMark, IsStart, new-mark, new-split, 
 
 -- a new mark is a finish, a start or an abort
 pub data Kind (lanes : Lanes) (mark : Mark) : Type 0 where
-  finish : (time : ℕ) (model : Spec) → IsAmong model lanes.compositor.active.tree.models → is_running lanes.compositor.marks model.id ≡ true → mark ≡ Finished model.id time → Kind lanes mark
-  start : (time : ℕ) → IsStart lanes.compositor.active.tree lanes.compositor.pending lanes.compositor.marks time mark → Kind lanes mark
-  abort : (commit : Committed) (model : Spec) → IsAmong model lanes.compositor.active.tree.models → mark ≡ Aborted model.id commit.number → Kind lanes mark
+  is_finish : (time : ℕ) (model : Spec) → IsAmong model lanes.compositor.active.tree.models → is_running lanes.compositor.marks model.id ≡ true → mark ≡ Finished model.id time → Kind lanes mark
+  is_start : (time : ℕ) → IsStart lanes.compositor.active.tree lanes.compositor.pending lanes.compositor.marks time mark → Kind lanes mark
+  is_abort : (commit : Committed) (model : Spec) → IsAmong model lanes.compositor.active.tree.models → mark ≡ Aborted model.id commit.number → Kind lanes mark
 
 pub kind_of : (lanes : Lanes) (mark : Mark) → IsNewMark lanes mark → Kind lanes mark
 unfolding marks_of_tick
@@ -45,10 +45,10 @@ kind_of lanes mark (inl (time, a)) = go (among-append_cases mark ended (start_ma
     ended = finish_marks active marks time
 
     go : IsAmong mark ended ⊎ IsAmong mark (start_marks active pending (marks ++ ended) time (groups_of active)) → Kind lanes mark
-    go (inl f) = let found = finish-mark active marks time mark f in finish time found.0 found.1 found.2 found.4
+    go (inl f) = let found = finish-mark active marks time mark f in is_finish time found.0 found.1 found.2 found.4
     go (inr s) =
         let found = started-mark active pending time (groups_of active) (marks ++ ended) mark s in
-        start time (record {
+        is_start time (record {
           so_far = found.so_far;
           goes_on = (ended ++ found.goes_on.0, found.goes_on.1 ∙ append_assoc marks ended found.goes_on.0);
           model = found.model;
@@ -59,17 +59,17 @@ kind_of lanes mark (inl (time, a)) = go (among-append_cases mark ended (start_ma
         })
 kind_of lanes mark (inr (commit, e, a)) =
     let found = abort-mark lanes.compositor.active.tree commit lanes.compositor.marks mark a in
-    abort commit found.0 found.1 found.3
+    is_abort commit found.0 found.1 found.3
 
 -- ---- starts
 
 new_start : (lanes : Lanes) (group : ℕ) (mark : Mark) → Kind lanes mark → starts_in group mark ≡ true → list_any (starts_in group) lanes.compositor.marks ≡ false
-new_start lanes group mark (finish time model there running e) s = absurd (false≢true (subst (λ m. starts_in group m ≡ true) e s))
-new_start lanes group mark (start time is) s =
+new_start lanes group mark (is_finish time model there running e) s = absurd (false≢true (subst (λ m. starts_in group m ≡ true) e s))
+new_start lanes group mark (is_start time is) s =
     let own : group ≡ is.model.group = eqb-true group is.model.group (subst (λ m. starts_in group m ≡ true) is.is s) in
     subst (λ g. list_any (starts_in g) lanes.compositor.marks ≡ false) (sym own)
     (any-fewer (starts_in is.model.group) lanes.compositor.marks is.goes_on.0 (subst (λ l. list_any (starts_in is.model.group) l ≡ false) is.goes_on.1 is.ready.unstarted))
-new_start lanes group mark (abort commit model there e) s = absurd (false≢true (subst (λ m. starts_in group m ≡ true) e s))
+new_start lanes group mark (is_abort commit model there e) s = absurd (false≢true (subst (λ m. starts_in group m ≡ true) e s))
 
 pub starts_together : (script : ScriptLists) → IsWellFormed script → (word : List Lane) (letter : Lane) → StartsTogether (after (beginning script) word) letter
 starts_together script well word letter = record {
@@ -83,13 +83,13 @@ starts_together script well word letter = record {
     lanes = after (beginning script) word
 
 has_target : (lanes : Lanes) (mark : Mark) → Kind lanes mark → HasTarget lanes mark
-has_target lanes mark (finish time model there running e) = subst (λ m. HasTarget lanes m) (sym e) tt
-has_target lanes mark (start time is) =
+has_target lanes mark (is_finish time model there running e) = subst (λ m. HasTarget lanes m) (sym e) tt
+has_target lanes mark (is_start time is) =
     let may = is.ready.may_start is.model is.member in
     let both = and_parts (has_element lanes.compositor.active.tree is.model.element && pending_allows lanes.compositor.pending is.model.group is.model.element) _ may in
     let parts = and_parts (has_element lanes.compositor.active.tree is.model.element) _ both.0 in
     subst (λ m. HasTarget lanes m) (sym is.is) (parts.0, parts.1)
-has_target lanes mark (abort commit model there e) = subst (λ m. HasTarget lanes m) (sym e) tt
+has_target lanes mark (is_abort commit model there e) = subst (λ m. HasTarget lanes m) (sym e) tt
 
 pub targets_present : (lanes : Lanes) (letter : Lane) → TargetsPresent lanes letter
 targets_present lanes letter mark a = has_target lanes mark (kind_of lanes mark (new-mark lanes letter mark a))
@@ -101,10 +101,10 @@ one_blocker script well word = (run_fits script well word).compositor.marks.bloc
 
 -- a new finish is of a model that ran
 new_finish : (lanes : Lanes) (id : ℕ) (mark : Mark) → Kind lanes mark → finishes id mark ≡ true → is_running lanes.compositor.marks id ≡ true
-new_finish lanes id mark (finish time model there running e) f =
+new_finish lanes id mark (is_finish time model there running e) f =
     subst (λ i. is_running lanes.compositor.marks i ≡ true) (sym (eqb-true id model.id (subst (λ m. finishes id m ≡ true) e f))) running
-new_finish lanes id mark (start time is) f = absurd (false≢true (subst (λ m. finishes id m ≡ true) is.is f))
-new_finish lanes id mark (abort commit model there e) f = absurd (false≢true (subst (λ m. finishes id m ≡ true) e f))
+new_finish lanes id mark (is_start time is) f = absurd (false≢true (subst (λ m. finishes id m ≡ true) is.is f))
+new_finish lanes id mark (is_abort commit model there e) f = absurd (false≢true (subst (λ m. finishes id m ≡ true) e f))
 
 pub finishes_together : (script : ScriptLists) → IsWellFormed script → (word : List Lane) (letter : Lane) → FinishesTogether (after (beginning script) word) letter
 finishes_together script well word letter group id done of_group = false_from_ne_true _ go

@@ -2,6 +2,7 @@ pub mod ActivationFits
 pub mod Among
 pub mod Births
 pub mod BookLemmas
+pub mod EndLaws
 pub mod FinishFits
 pub mod GroupLaws
 pub mod HearingLemmas
@@ -15,4 +16,5 @@ pub mod RunFits
 pub mod RunningLemmas
 pub mod StartFits
 pub mod StepLemmas
+pub mod TreeLaws
 pub mod WordLemmas
