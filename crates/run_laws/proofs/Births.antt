@@ -234,7 +234,7 @@ commits-edit book (AddModel model) = refl
 commits-edit book (RemoveModel id) = refl
 
 -- a birth of an edit is its model's, or one of the steps behind it
-births_of-cases : (n : ℕ) (change : Change) (behind : List Birth) (b : Birth) → IsAmong b (births_of n change behind) → ((model : Spec) × (change ≡ AddModel model) × (b ≡ birth model n)) ⊎ IsAmong b behind
+pub births_of-cases : (n : ℕ) (change : Change) (behind : List Birth) (b : Birth) → IsAmong b (births_of n change behind) → ((model : Spec) × (change ≡ AddModel model) × (b ≡ birth model n)) ⊎ IsAmong b behind
 births_of-cases n (AddElement id look) behind b h = inr h
 births_of-cases n (RemoveElement id) behind b h = inr h
 births_of-cases n (SetOpacity id opacity) behind b h = inr h

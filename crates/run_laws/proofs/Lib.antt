@@ -1,9 +1,11 @@
 pub mod ActivationFits
+pub mod AddedModels
 pub mod Among
 pub mod Births
 pub mod BookLemmas
 pub mod EndLaws
 pub mod FinishFits
+pub mod FollowLaws
 pub mod GroupLaws
 pub mod HearingLemmas
 pub mod Lines
