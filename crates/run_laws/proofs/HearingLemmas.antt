@@ -61,6 +61,16 @@ letter_first lanes Compositor h =
     let grown = letter_grows lanes Compositor in
     rw grown.1 (more_marks lanes.compositor.marks grown.0 lanes.main h)
 
+-- What main has heard is where the events begin, after any word.
+word_first : (lanes : Lanes) (word : List Lane) → AreHeardFirst lanes.compositor.marks lanes.main → AreHeardFirst (after lanes word).compositor.marks (after lanes word).main
+unfolding after
+word_first lanes [] h = h
+word_first lanes (letter ∷ word) h = word_first (after_letter lanes letter) word (letter_first lanes letter h)
+
+pub heard_first : (script : ScriptLists) (word : List Lane) → BeginsWith (map event_of (after (beginning script) word).compositor.marks) (after (beginning script) word).main.heard
+unfolding AreHeardFirst
+heard_first script word = word_first (beginning script) word ([], refl)
+
 -- What was heard before a word, and then what its drains and the closing one hear, are the events after it.
 word_batches : (lanes : Lanes) (word : List Lane) → AreHeardFirst lanes.compositor.marks lanes.main → lanes.main.heard ++ all_of (batches lanes word) ≡ map event_of (after lanes word).compositor.marks
 unfolding after batches

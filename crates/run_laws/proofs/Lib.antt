@@ -2,7 +2,9 @@ pub mod ActivationFits
 pub mod AddedModels
 pub mod Among
 pub mod Births
+pub mod BookLaws
 pub mod BookLemmas
+pub mod CountLaws
 pub mod EndLaws
 pub mod FinishFits
 pub mod FollowLaws

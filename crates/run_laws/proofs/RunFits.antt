@@ -166,36 +166,39 @@ word_fits script lanes (letter ∷ word) one h = word_fits script (after_letter 
 pub one_script : (script : ScriptLists) → IsWellFormed script → AreOfOneScript (births 0 script.main)
 one_script script h = births_of_script script.main h.edits
 
+pub begins_main : (script : ScriptLists) → IsWellFormed script → MainFits (births 0 script.main) new_book (beginning script).main
+begins_main script h = record {
+  allowed = h.edits;
+  to_come = λ b a. a;
+  count = refl;
+  commits_room = omega arith;
+  together = record {
+    elements = refl;
+    timelines = refl;
+    models = λ model a. absurd a;
+    elements_added = omega arith;
+    elements_room = omega arith;
+    models_added = omega arith;
+    models_room = omega arith;
+    timelines_room = omega arith;
+  };
+  fits = λ commit a. absurd a;
+  numbered = λ commit a. absurd a;
+  within = λ commit a. absurd a;
+  ordered = tt;
+  now = record {
+    born_before = λ model a. absurd a;
+    apart = tt;
+    timelines = λ model a. absurd a;
+    clocks = λ one other a. absurd a;
+  };
+  before = λ commit a. absurd a;
+}
+
 begins_fitting : (script : ScriptLists) → IsWellFormed script → RunFits script (beginning script)
 begins_fitting script h = record {
   book = new_book;
-  main = record {
-    allowed = h.edits;
-    to_come = λ b a. a;
-    count = refl;
-    commits_room = omega arith;
-    together = record {
-      elements = refl;
-      timelines = refl;
-      models = λ model a. absurd a;
-      elements_added = omega arith;
-      elements_room = omega arith;
-      models_added = omega arith;
-      models_room = omega arith;
-      timelines_room = omega arith;
-    };
-    fits = λ commit a. absurd a;
-    numbered = λ commit a. absurd a;
-    within = λ commit a. absurd a;
-    ordered = tt;
-    now = record {
-      born_before = λ model a. absurd a;
-      apart = tt;
-      timelines = λ model a. absurd a;
-      clocks = λ one other a. absurd a;
-    };
-    before = λ commit a. absurd a;
-  };
+  main = begins_main script h;
   compositor = record {
     active = inl refl;
     behind = omega arith;
