@@ -18,6 +18,7 @@ pub mod MarksFit
 pub mod NumberLemmas
 pub mod RunFits
 pub mod RunningLemmas
+pub mod ShownLaws
 pub mod StartFits
 pub mod StepLemmas
 pub mod TreeLaws

@@ -61,7 +61,7 @@ last-among : (first : Committed) (commits : List Committed) → IsAmong (fold (�
 last-among first [] = inl refl
 last-among first (commit ∷ commits) = inr (last-among commit commits)
 
-newest-among : (commits : List Committed) (number : ℕ) → number < (newest_commit commits).number → IsAmong (newest_commit commits) commits
+pub newest-among : (commits : List Committed) (number : ℕ) → number < (newest_commit commits).number → IsAmong (newest_commit commits) commits
 newest-among commits number later = go (last-among empty_commit commits)
   where
     go : IsAmong (newest_commit commits) (empty_commit ∷ commits) → IsAmong (newest_commit commits) commits
