@@ -1,1 +1,1 @@
-pub mod OwnRows
+pub mod RowLemmas

@@ -1,22 +1,31 @@
-ghost use Rattle.std.specs.Prelude.{◌≡◌, ◌<◌, [], length, IfOk, map, slice_get, Some};
-ghost use Rattle.active_tree.specs.Rows.{own_row};
-ghost use Rattle.tree_commit.specs.Frames.{frame_at};
+ghost use Rattle.std.specs.Prelude.{◌≡◌, IfOk, map};
+ghost use Rattle.anim_timeline.specs.Timelines.{IsTime};
+ghost use Rattle.tree_commit.specs.Frames.{LocalTimesFit, frame_by, row_of};
 ghost use Rattle.tree_commit.specs.Trees.{empty_commit};
 ghost use Rattle.tree_commit.specs.Views.{drawn_row_of};
 
+use easing_fixed::{EasingFunction, Evaluator};
 use std::alloc::{AllocError, Global};
 use std::marker::Model;
 use std::sync::Arc;
-use tree_commit::{Commit, Frame, FrameRow};
-use value_blend::Blend;
+use tree_commit::{Commit, Frame, FrameRow, StartTable, sample_element};
 
 /// The commit that is drawn.
 ///
-/// The compositor has one active tree, and there is always a commit in it. A contract sees that commit.
-#[derive(Drop)]
+/// The compositor has one active tree, on its own thread, and there is always a commit in it. It draws frames and does
+/// not know which models start, finish or are aborted: it asks a table of starts. A contract sees the active commit.
 pub struct ActiveTree {
     alloc: Global,
     commit: Arc<Commit>,
+}
+
+impl Drop for ActiveTree {
+    fn drop(self) {
+        let ActiveTree {
+            alloc: _,
+            commit: _commit,
+        } = self;
+    }
 }
 
 impl Model for ActiveTree {
@@ -50,38 +59,41 @@ impl ActiveTree {
         &self.commit
     }
 
-    /// The frame of a tick, in microseconds, where no model was started: each element shows what is its own.
-    #[tactic(auto, using(crate::proofs::OwnRows::frame_over_no_marks))]
-    pub fn frame(&mut self, time: u64) -> Result<Frame, AllocError>
-        ensures frame { IfOk result (λ frame. frame ≡ frame_at self.old [] time) }
+    /// The frame of a tick, in microseconds, by what the table shows of the commit's models: a row for each element, in
+    /// the commit's order. Earlier frames make no difference.
+    pub fn frame<S: StartTable, E: EasingFunction>(
+        &mut self,
+        time: u64,
+        starts: &S,
+        evaluator: &Evaluator<E>,
+    ) -> Result<Frame, AllocError>
+        requires in_time { IsTime time }
+        requires locals { LocalTimesFit self.old.tree (S.starts starts.now) time }
+        ensures frame { IfOk result (λ frame. frame ≡ frame_by self.old (S.starts starts.now) time) }
         ensures same { self.new ≡ self.old }
     {
-        let rows = own_rows(self.alloc, &self.commit)?;
+        let rows = sample_all(self.alloc, &self.commit, time, starts, evaluator)?;
         Ok(Frame::from_rows(time, self.commit.number(), rows))
     }
 }
 
-// What each element of the commit shows where nothing animates it.
-fn own_rows(alloc: Global, commit: &Commit) -> Result<Vec<FrameRow>, AllocError>
-    ensures { IfOk result (λ rows. map drawn_row_of rows.items ≡ map own_row commit.now.tree.elements) }
+// What each element of the commit shows at a tick.
+fn sample_all<S: StartTable, E: EasingFunction>(
+    alloc: Global,
+    commit: &Commit,
+    time: u64,
+    starts: &S,
+    evaluator: &Evaluator<E>,
+) -> Result<Vec<FrameRow>, AllocError>
+    requires in_time { IsTime time }
+    requires locals { LocalTimesFit commit.now.tree (S.starts starts.now) time }
+    ensures { IfOk result (λ rows.
+        map drawn_row_of rows.items ≡ map (row_of commit.now.tree (S.starts starts.now) time) commit.now.tree.elements) }
 {
     let count = commit.element_count();
     let mut rows = Vec::with_capacity(alloc, count)?;
-    for place in 0..count {
-        rows.push(own_row_at(commit, place)?)?;
+    for index in 0..count {
+        rows.push(sample_element(commit, index, time, starts, evaluator)?)?;
     }
     Ok(rows)
-}
-
-// The same of the element at a place.
-fn own_row_at(commit: &Commit, place: usize) -> Result<FrameRow, AllocError>
-    requires { place < length commit.now.tree.elements }
-    ensures { IfOk result (λ row. slice_get (map own_row commit.now.tree.elements) place ≡ Some (drawn_row_of row)) }
-{
-    let (element, base) = commit.element_at(place);
-    Ok(FrameRow {
-        element,
-        opacity: base.opacity,
-        transform: base.transform.copy()?,
-    })
 }

@@ -1,6 +1,7 @@
 ghost use Rattle.std.specs.Prelude.{◌≡◌, ◌≤◌, unsigned_abs};
-ghost use Rattle.anim_timeline.specs.Timelines.{IsTime, last_time, timeline_of, timeline_time};
+ghost use Rattle.anim_timeline.specs.Timelines.{IsTime, timeline_of, timeline_time};
 
+use crate::LAST_TIME;
 use std::marker::Model;
 
 /// A clock of animations: it shows 0 at one tick, and at any other how far that tick is from it.
@@ -25,11 +26,12 @@ impl Model for Timeline {
 }
 
 impl Timeline {
-    /// The timeline that shows 0 at this tick, in microseconds. There is none exactly where the tick is above 2^50.
+    /// The timeline that shows 0 at this tick, in microseconds. There is none exactly where the tick is above
+    /// [`LAST_TIME`].
     pub fn new(origin: u64) -> Option<Timeline>
         ensures { result ≡ timeline_of origin }
     {
-        if origin <= LAST {
+        if origin <= LAST_TIME {
             Some(Timeline { origin })
         } else {
             None
@@ -40,7 +42,7 @@ impl Timeline {
     pub fn zero(&self) -> u64
         ensures value { result ≡ self.now }
 
-        // What holds of every timeline: `new` would take it.
+        // So is the zero of every timeline.
         ensures within { IsTime self.now }
     {
         self.origin
@@ -50,11 +52,8 @@ impl Timeline {
     pub fn time_of(&self, tick: u64) -> i64
         requires { IsTime tick }
         ensures value { result ≡ timeline_time self.now tick }
-        ensures size { unsigned_abs result ≤ last_time }
+        ensures size { unsigned_abs result ≤ LAST_TIME }
     {
         tick as i64 - self.origin as i64
     }
 }
-
-/// The last tick: 2^50.
-const LAST: u64 = 1 << 50;

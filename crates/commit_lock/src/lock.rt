@@ -95,10 +95,17 @@ impl<V: Journaled> CommitLock<V> {
         ensures seen { BeginsWith (V.journal result.value) seat.seen }
         ensures mine { entries_of seat.lane (V.journal result.value) ≡ seat.mine }
     {
-        let LaneSeat { lane, mut table_seat } = seat;
+        let LaneSeat {
+            lane,
+            mut table_seat,
+        } = seat;
         self.take_turn(rt, &mut table_seat, lane);
         let value = self.take_value(&mut table_seat);
-        Held { lane, table_seat, value }
+        Held {
+            lane,
+            table_seat,
+            value,
+        }
     }
 
     /// Ends a section, in which the journal may only have grown by entries of its own lane. It waits for nobody.
@@ -132,7 +139,10 @@ impl<V: Journaled> CommitLock<V> {
         ensures compositor_mine { entries_of Compositor (V.journal result) ≡ compositor.mine }
     {
         let CommitLock { table } = self;
-        let LaneSeat { lane: _, mut table_seat } = main;
+        let LaneSeat {
+            lane: _,
+            mut table_seat,
+        } = main;
         let LaneSeat {
             lane: _,
             table_seat: other,

@@ -1,17 +1,12 @@
 -- What is true of the keys of a curve.
-use Rattle.std.proofs.Common.{◌≡◌, ℕ, zero, suc, ◌-◌, ◌<◌, ◌≤◌, Bool, true, false, not, ◌&&◌, All, if◌then◌else◌, nat_lt, ◌==◌, ℤ, List, [], ◌∷◌, length, get_or, take, drop, Some, None, refl, arith}
+use Rattle.std.proofs.Common.{◌≡◌, ℕ, zero, suc, ◌-◌, ◌<◌, ◌≤◌, Bool, true, false, not, ◌&&◌, All, if◌then◌else◌, nat_lt, ◌==◌, ℤ, List, [], ◌∷◌, length, get_or, take, drop, Some, None, refl, inl, inr, subst, ◌+◌, ◌∙◌, arith}
+use Rattle.std.proofs.lemmas.Bool.{cases_lt}
 use Rattle.std.proofs.lemmas.Bool.Decides.{nat_tests}
 use Rattle.std.proofs.lemmas.List.{take_all}
+use Rattle.micro_time.specs.declared.TheConstants.{LONGEST_DURATION}
 use Rattle.curve_keys.specs.declared.fault.CurveFault.TheVariants.{FewKeys, ManyKeys, TimesNotRising, FirstNotZero}
 use Rattle.curve_keys.specs.declared.key.Key.{Key}
-use Rattle.curve_keys.specs.Curves.{longest, is_rising, is_rising_from, begins_at_zero, curve_refusal, IsCurve, last_time, value_from, value_at}
-
--- ---- the first key and the others
-
-pub begins_at_zero-first : {V : Type 0} (keys : List (Key V)) (d : Key V) → 0 < length keys → begins_at_zero keys ≡ true →
-    (get_or keys 0 d).time ≡ 0
-begins_at_zero-first [] d some begins = absurd (omega arith)
-begins_at_zero-first (key ∷ keys) d some begins = grind (arith, nat_tests)
+use Rattle.curve_keys.specs.Curves.{Keyframes, IsKey, is_rising, is_rising_from, begins_at_zero, curve_refusal, IsCurve, last_time, duration_of, value_from, value_at}
 
 -- ---- the last key
 
@@ -60,13 +55,8 @@ accepted keys none =
       begins = tests.2;
     }
 
-pub IsCurve-some : {V : Type 0} (keys : List (Key V)) → IsCurve keys → 2 ≤ length keys
-IsCurve-some keys curve = (accepted keys curve.taken).some
-
-pub IsCurve-begins : {V : Type 0} (keys : List (Key V)) (d : Key V) → IsCurve keys → (get_or keys 0 d).time ≡ 0
-IsCurve-begins keys d curve =
-    let parts = accepted keys curve.taken in
-    begins_at_zero-first keys d (omega (arith, parts.some)) parts.begins
+pub IsCurve-some : {V : Type 0} (is_value : V → Type 0) (curve : Keyframes V) → IsCurve is_value curve → 2 ≤ length curve.keys
+IsCurve-some is_value curve is = (accepted curve.keys is.taken).some
 
 lasting : {V : Type 0} (keys : List (Key V)) → 2 ≤ length keys → is_rising keys ≡ true → 0 < last_time 0 keys
 lasting [] some rising = absurd (omega arith)
@@ -77,7 +67,7 @@ lasting (key ∷ next ∷ keys) some rising =
     let first : key.time < next.time = grind (arith, nat_tests) in
     omega arith
 
-ending : {V : Type 0} (keys : List (Key V)) → 2 ≤ length keys → All (λ (key : Key V). key.time ≤ longest) keys → last_time 0 keys ≤ longest
+ending : {V : Type 0} (keys : List (Key V)) → 2 ≤ length keys → All (λ (key : Key V). key.time ≤ LONGEST_DURATION) keys → last_time 0 keys ≤ LONGEST_DURATION
 ending [] some short = absurd (omega arith)
 ending (key ∷ keys) some short =
     let last = last_time-at 0 (key ∷ keys) (length keys) key (omega arith) in
@@ -85,10 +75,11 @@ ending (key ∷ keys) some short =
     omega arith
 
 -- a curve takes some time, and not too much
-pub IsCurve-lasts : {V : Type 0} (keys : List (Key V)) → IsCurve keys → (0 < last_time 0 keys) × (last_time 0 keys ≤ longest)
-IsCurve-lasts keys curve =
-    let parts = accepted keys curve.taken in
-    (lasting keys parts.some parts.rising, ending keys parts.some curve.short)
+pub IsCurve-lasts : {V : Type 0} (is_value : V → Type 0) (curve : Keyframes V) → IsCurve is_value curve →
+    (0 < duration_of curve) × (duration_of curve ≤ LONGEST_DURATION)
+IsCurve-lasts is_value curve is =
+    let parts = accepted curve.keys is.taken in
+    (lasting curve.keys parts.some parts.rising, ending curve.keys parts.some (λ k d below. (is.each k d below).time))
 
 -- ---- the keys after the first
 
@@ -96,12 +87,13 @@ rest-is : {V : Type 0} (keys : List (Key V)) → 0 < length keys → take (lengt
 rest-is [] some = absurd (omega arith)
 rest-is (key ∷ keys) some = take_all (length (key ∷ keys) - 1) keys (omega arith)
 
-pub rest-short : {V : Type 0} (keys : List (Key V)) → IsCurve keys → All (λ (key : Key V). key.time ≤ longest) (take (length keys - 1) (drop 1 keys))
-rest-short [] curve = absurd (let some = IsCurve-some [] curve in omega arith)
-rest-short (key ∷ keys) curve = λ k d below.
+pub rest-short : {V : Type 0} (is_value : V → Type 0) (keys : List (Key V)) → 0 < length keys → All (IsKey is_value) keys →
+    All (λ (key : Key V). key.time ≤ LONGEST_DURATION) (take (length keys - 1) (drop 1 keys))
+rest-short is_value [] some each = absurd (omega arith)
+rest-short is_value (key ∷ keys) some each = λ k d below.
     let rest = rest-is (key ∷ keys) (omega arith) in
     let within : k < length keys = rw rest at below in
-    rw rest (curve.short (suc k) d (omega arith))
+    rw rest (each (suc k) d (omega arith)).time
 
 -- ---- the value
 
@@ -118,3 +110,20 @@ value_at-later blend (key ∷ keys) time first some is later =
     let rest = rest-is (key ∷ keys) some in
     let no : (time == 0) ≡ false = grind (arith, nat_tests) in
     rw (no, rest, is) refl
+
+-- ---- each key
+
+get_or-any : {V : Type 0} (keys : List V) (n : ℕ) (d e : V) → n < length keys → get_or keys n d ≡ get_or keys n e
+get_or-any [] n d e below = absurd (omega arith)
+get_or-any (key ∷ keys) zero d e below = refl
+get_or-any (key ∷ keys) (suc n) d e below = get_or-any keys n d e (omega arith)
+
+-- where the keys before n are so and the n-th is, each up to there is
+pub each-more : {V : Type 0} (P : V → Type 0) (keys : List V) (n : ℕ) (key : V) → ((k : ℕ) (d : V) → k < n → P (get_or keys k d)) →
+    key ≡ get_or keys n key → n < length keys → P key → (k : ℕ) (d : V) → k < n + 1 → P (get_or keys k d)
+each-more P keys n key before is there here k d below = elim (cases_lt k n) [
+  | inl less ↦ before k d less
+  | inr no_less ↦
+      let same : n ≡ k = omega arith in
+      subst (λ i. P (get_or keys i d)) same (subst P (is ∙ get_or-any keys n key d there) here)
+]

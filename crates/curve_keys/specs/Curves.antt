@@ -1,11 +1,13 @@
 -- Curves: what may be the keys of one, and which value it has at a time. How two values blend is a parameter, since
 -- there are curves of opacities and of transforms.
-use Rattle.std.specs.Prelude.{◌≡◌, ◌≤◌, ◌^◌, All, ℕ, ◌-◌, ◌*◌, ◌/◌, ◌==◌, nat_lt, Bool, true, false, not, ◌&&◌, if◌then◌else◌, ℤ, pos, ◌*ℤ◌, List, [], ◌∷◌, length, Option, Some, None}
+use Rattle.std.specs.Prelude.{◌≡◌, ◌≤◌, All, ℕ, ◌-◌, ◌*◌, ◌/◌, ◌==◌, nat_lt, Bool, true, false, not, ◌&&◌, if◌then◌else◌, ℤ, pos, ◌*ℤ◌, List, [], ◌∷◌, length, Option, Some, None}
+use Rattle.micro_time.specs.declared.TheConstants.{LONGEST_DURATION}
 use Rattle.easing_fixed.specs.declared.TheConstants.{ONE}
 use Rattle.easing_fixed.specs.declared.easing.Easing.{Easing}
 use Rattle.easing_fixed.specs.declared.easing.Easing.TheVariants.{Linear}
-use Rattle.easing_fixed.specs.Easings.{eased}
+use Rattle.easing_fixed.specs.Easings.{IsEasing, eased}
 use Rattle.value_blend.specs.Fixed.{floor_div, clamp_to}
+use Rattle.curve_keys.specs.declared.TheConstants.{FEWEST_KEYS, MOST_KEYS}
 use Rattle.curve_keys.specs.declared.fault.CurveFault.{CurveFault}
 use Rattle.curve_keys.specs.declared.fault.CurveFault.TheVariants.{FewKeys, ManyKeys, TimesNotRising, FirstNotZero}
 use Rattle.curve_keys.specs.declared.key.Key.{Key}
@@ -19,10 +21,6 @@ pub record Keyframes (V : Type 0) : Type 0 where
 
 abbrev pub keyframes : {V : Type 0} → List (Key V) → Easing → Keyframes V
 keyframes keys easing = record { keys = keys; easing = easing }
-
--- the longest duration of a curve: some 19 hours
-abbrev pub longest : ℕ
-longest = 2 ^ 36
 
 -- each key's time is greater than the one before
 abbrev pub is_rising_from : {V : Type 0} → ℕ → List (Key V) → Bool
@@ -40,16 +38,23 @@ begins_at_zero (key ∷ keys) = key.time == 0
 -- why the keys make no curve
 abbrev pub curve_refusal : {V : Type 0} → List (Key V) → Option CurveFault
 curve_refusal keys =
-    if nat_lt (length keys) 2 then Some FewKeys else
-    if nat_lt 16 (length keys) then Some ManyKeys else
+    if nat_lt (length keys) FEWEST_KEYS then Some FewKeys else
+    if nat_lt MOST_KEYS (length keys) then Some ManyKeys else
     if not (is_rising keys) then Some TimesNotRising else
     if not (begins_at_zero keys) then Some FirstNotZero else
     None
 
--- what may be the keys of a curve
-pub record IsCurve {V : Type 0} (keys : List (Key V)) : Type 0 where
-  pub taken : curve_refusal keys ≡ None
-  pub short : All (λ key. key.time ≤ longest) keys
+-- what may be a key of a curve, where `is_value` says what may be a value
+pub record IsKey {V : Type 0} (is_value : V → Type 0) (key : Key V) : Type 0 where
+  pub time : key.time ≤ LONGEST_DURATION
+  pub easing : IsEasing key.easing
+  pub value : is_value key.value
+
+-- what may be a curve
+pub record IsCurve {V : Type 0} (is_value : V → Type 0) (curve : Keyframes V) : Type 0 where
+  pub taken : curve_refusal curve.keys ≡ None
+  pub each : All (IsKey is_value) curve.keys
+  pub easing : IsEasing curve.easing
 
 -- ---- the time
 

@@ -1,12 +1,13 @@
-ghost use Rattle.std.specs.Prelude.{◌≡◌, ℕ, ◌≤◌, ◌<◌, ◌^◌, ◌*◌, All, length, false, IfOk, IsOk, slice_get, Some};
+ghost use Rattle.std.specs.Prelude.{◌≡◌, ℕ, ◌≤◌, ◌<◌, ◌*◌, All, length, false, IfOk, IsOk, slice_get, Some};
 ghost use Rattle.std.specs.Prelude.{◌/◌, pos, ◌*ℤ◌};
 ghost use Rattle.std.specs.Result.{result_err};
 ghost use Rattle.value_blend.specs.Fixed.{floor_div, clamp_to};
 ghost use Rattle.easing_fixed.specs.Easings.{eased};
-ghost use Rattle.curve_keys.specs.Curves.{longest, value_from, is_rising, is_rising_from, last_time};
+ghost use Rattle.curve_keys.specs.Curves.{IsKey, value_from, is_rising, is_rising_from, last_time};
+ghost use Rattle.micro_time.specs.declared.TheConstants.{LONGEST_DURATION};
 
-use crate::{CurveFault, Key};
-use easing_fixed::{Easing, ONE};
+use crate::{CurveFault, FEWEST_KEYS, Key, MOST_KEYS};
+use easing_fixed::{Easing, EasingFunction, Evaluator, ONE};
 use std::alloc::AllocError;
 use std::marker::Model;
 use value_blend::Blend;
@@ -14,18 +15,18 @@ use value_blend::Blend;
 /// The time of a curve's first key.
 const BEGIN: u64 = 0;
 
-/// How a value changes in time: 2 to 16 keys in order of their times, the first of which is at time 0.
+/// How a value changes in time: [`FEWEST_KEYS`] to [`MOST_KEYS`] keys in order of their times, the first of which is at time 0.
 ///
 /// The curve's own easing bends the time before a value is looked up. Contracts see a curve as its keys and its
 /// easing; `curve_value` of them is the value at a time.
-#[derive(Debug, Drop)]
-pub struct Curve<V> {
+#[derive(Debug)]
+pub struct Curve<V: Blend> {
     keys: Vec<Key<V>>,
     easing: Easing,
     duration: u64,
 }
 
-impl<V> Model for Curve<V> {
+impl<V: Blend> Model for Curve<V> {
     ghost use Rattle.std.specs.Prelude.{◌≡◌};
     ghost use Rattle.curve_keys.specs.Curves.{Keyframes, keyframes, IsCurve, last_time};
 
@@ -33,22 +34,33 @@ impl<V> Model for Curve<V> {
 
     ghost view = { λ c. keyframes c.keys.items c.easing };
 
-    ghost invariant = { λ c. IsCurve c.keys.items × (c.duration ≡ last_time 0 c.keys.items) };
+    ghost invariant = { λ c.
+        IsCurve V.is_value (keyframes c.keys.items c.easing) × (c.duration ≡ last_time 0 c.keys.items) };
 }
 
-impl<V: Drop> Curve<V> {
-    ghost use Rattle.curve_keys.specs.Curves.{keyframes, curve_refusal, longest};
+impl<V: Blend + Drop> Drop for Curve<V> {
+    fn drop(self) {
+        let Curve {
+            keys: _keys,
+            easing: _,
+            duration: _,
+        } = self;
+    }
+}
+
+impl<V: Blend + Drop> Curve<V> {
+    ghost use Rattle.curve_keys.specs.Curves.{keyframes, curve_refusal};
 
     /// The curve through these keys, in their order, with an easing of its own. Keys that make no curve are dropped.
     pub fn new(keys: Vec<Key<V>>, easing: Easing) -> Result<Curve<V>, CurveFault>
-        requires { All (λ key. key.time ≤ longest) keys.items }
+        requires { All (λ key. key.time ≤ LONGEST_DURATION) keys.items }
         ensures refused { result_err result ≡ curve_refusal keys.items }
         ensures parts { IfOk result (λ curve. curve ≡ keyframes keys.items easing) }
     {
-        if keys.len() < 2 {
+        if keys.len() < FEWEST_KEYS {
             return Err(CurveFault::FewKeys);
         }
-        if keys.len() > 16 {
+        if keys.len() > MOST_KEYS {
             return Err(CurveFault::ManyKeys);
         }
         if !is_rising(&keys) {
@@ -57,6 +69,8 @@ impl<V: Drop> Curve<V> {
         if keys[0].time != BEGIN {
             return Err(CurveFault::FirstNotZero);
         }
+        vouch(&keys);
+        easing.vouch();
         let duration = last_time(&keys);
         Ok(Curve {
             keys,
@@ -66,15 +80,15 @@ impl<V: Drop> Curve<V> {
     }
 }
 
-impl<V> Curve<V> {
+impl<V: Blend> Curve<V> {
     ghost use Rattle.curve_keys.specs.Curves.{IsCurve, duration_of, bent_time};
 
     /// The last key's time, in microseconds.
     pub fn duration(&self) -> u64
         ensures value { result ≡ duration_of self.now }
 
-        // What holds of every curve: `new` would take its keys.
-        ensures taken { IsCurve self.now.keys }
+        // So is every curve.
+        ensures in_range { IsCurve V.is_value self.now }
     {
         self.duration
     }
@@ -93,7 +107,7 @@ impl<V> Curve<V> {
         self.keys.len()
     }
 
-    /// The key at a place, which counts from 0.
+    /// The key of this index, which counts from 0.
     pub fn key(&self, i: usize) -> &Key<V>
         requires { i < length self.now.keys }
         ensures { slice_get self.now.keys i ≡ Some result.now }
@@ -102,14 +116,16 @@ impl<V> Curve<V> {
     }
 
     // The time that the curve's own easing makes of a time.
-    fn bent_time(&self, time: u64) -> u64
+    fn bent_time<E: EasingFunction>(&self, time: u64, evaluator: &Evaluator<E>) -> u64
         requires { time ≤ duration_of self.now }
         ensures value { result ≡ bent_time self.now.easing (duration_of self.now) time }
         ensures within { result ≤ duration_of self.now }
     {
         match self.easing {
             Easing::Linear => time,
-            Easing::Steps(_) | Easing::Cubic(_) => bend(&self.easing, self.duration, time),
+            Easing::Steps(_) | Easing::Cubic(_) => {
+                bend(&self.easing, self.duration, time, evaluator)
+            }
         }
     }
 }
@@ -118,48 +134,73 @@ impl<V: Blend> Curve<V> {
     ghost use Rattle.curve_keys.specs.Curves.{duration_of, curve_value};
 
     /// The value at a time, in microseconds from the beginning of the curve.
-    pub fn value_at(&self, time: u64) -> Result<V, AllocError>
+    pub fn value_at<E: EasingFunction>(
+        &self,
+        time: u64,
+        evaluator: &Evaluator<E>,
+    ) -> Result<V, AllocError>
         requires { time ≤ duration_of self.now }
         ensures value { IfOk result (λ value. curve_value V.blended self.now time ≡ Some value) }
         ensures without_memory { V.TAKES_MEMORY ≡ false → IsOk result }
     {
-        let time = self.bent_time(time);
+        let time = self.bent_time(time, evaluator);
         if time == BEGIN {
             return self.keys[0].value.copy();
         }
-        value_from(&self.keys[0], &self.keys[1..], time)
+        value_from(&self.keys[0], &self.keys[1..], time, evaluator)
     }
 }
 
 // The time of a curve of this duration that an easing makes of a time.
-fn bend(easing: &Easing, duration: u64, time: u64) -> u64
+fn bend<E: EasingFunction>(
+    easing: &Easing,
+    duration: u64,
+    time: u64,
+    evaluator: &Evaluator<E>,
+) -> u64
     requires within { time ≤ duration }
     requires some { 0 < duration }
-    requires short { duration ≤ longest }
+    requires short { duration ≤ LONGEST_DURATION }
     ensures value { result
         ≡ clamp_to duration (floor_div (eased easing.now (time * ONE / duration) *ℤ pos duration) ONE) }
     ensures within { result ≤ duration }
 {
     let progress = (time * u64::from(ONE) / duration) as u32;
-    let bent = easing.value(progress) * duration as i64;
+    let bent = evaluator.ease(easing, progress) * duration as i64;
     bent.div_euclid(i64::from(ONE)).clamp(0, duration as i64) as u64
 }
 
 // The value from this key on: up to the next key a blend of the two, and from the last key on that key's value.
-fn value_from<V: Blend>(first: &Key<V>, keys: &[Key<V>], time: u64) -> Result<V, AllocError>
+fn value_from<V: Blend, E: EasingFunction>(
+    first: &Key<V>,
+    keys: &[Key<V>],
+    time: u64,
+    evaluator: &Evaluator<E>,
+) -> Result<V, AllocError>
     requires begun { first.now.time ≤ time }
-    requires short { All (λ key. key.time ≤ longest) keys.now }
+    requires short { All (λ key. key.time ≤ LONGEST_DURATION) keys.now }
     ensures value { IfOk result (λ value. value ≡ value_from V.blended first.now keys.now time) }
     ensures without_memory { V.TAKES_MEMORY ≡ false → IsOk result }
 {
     let mut from = first;
     for to in keys {
         if time < to.time {
-            return from.value_before(to, time);
+            return from.value_before(to, time, evaluator);
         }
         from = to;
     }
     from.value.copy()
+}
+
+// Each key's time is within the range, and its easing and its value are so by themselves.
+fn vouch<V: Blend>(keys: &[Key<V>])
+    requires { All (λ key. key.time ≤ LONGEST_DURATION) keys.now }
+    ensures { All (IsKey V.is_value) keys.now }
+{
+    for key in keys {
+        key.easing.vouch();
+        key.value.vouch();
+    }
 }
 
 // Whether each key's time is greater than the one before.

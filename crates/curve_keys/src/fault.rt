@@ -3,10 +3,10 @@ use thiserror::Error;
 /// Why keys make no curve: the first of these that is so.
 #[derive(Clone, Copy, Debug, PartialEq, Eq, Hash, Error)]
 pub enum CurveFault {
-    /// There are fewer than 2.
+    /// There are fewer than [`crate::FEWEST_KEYS`].
     #[error("a curve has at least 2 keys")]
     FewKeys,
-    /// There are more than 16.
+    /// There are more than [`crate::MOST_KEYS`].
     #[error("a curve has at most 16 keys")]
     ManyKeys,
     /// A key's time is not greater than the one before.

@@ -5,7 +5,7 @@ use Rattle.std.proofs.Math.IntN.{zero-*ℤ}
 use Rattle.std.specs.Int.{int_div_euclid}
 use Rattle.std.proofs.lemmas.Bool.{cases_lt}
 use Rattle.std.proofs.lemmas.Bool.Decides.{nat_tests}
-use Rattle.easing_fixed.specs.declared.TheConstants.{ONE}
+use Rattle.easing_fixed.specs.declared.TheConstants.{ONE, END}
 use Rattle.easing_fixed.specs.Cubics.{CubicParts, cubic_value, height, across, bound, IsPlace, is_not_past, greatest_from, place}
 use Rattle.easing_fixed.proofs.Rising.{across-rises, across-rises_weakly, across-scaled}
 
@@ -35,7 +35,7 @@ is_not_past-parts x1 x2 p s h = grind (arith, nat_tests)
 is_not_past-passes : (x1 x2 p s : ℕ) → s ≤ ONE → across ONE x1 x2 s ≤ bound p → is_not_past x1 x2 p s ≡ true
 is_not_past-passes x1 x2 p s within not_past = grind (arith, nat_tests)
 
-pub place-IsPlace : (x1 x2 p : ℕ) → x1 ≤ 10 ^ 6 → x2 ≤ 10 ^ 6 → IsPlace x1 x2 p (place x1 x2 p)
+pub place-IsPlace : (x1 x2 p : ℕ) → x1 ≤ END → x2 ≤ END → IsPlace x1 x2 p (place x1 x2 p)
 unfolding place
 place-IsPlace x1 x2 p p1 p2 =
     let closed = λ (s : ℕ) (r : ℕ) (h : r ≤ s) (t : is_not_past x1 x2 p s ≡ true).
@@ -47,14 +47,14 @@ place-IsPlace x1 x2 p p1 p2 =
     record { within = here.0; not_past = here.1; greatest = λ r h t. g.greatest r (is_not_past-passes x1 x2 p r h t) }
 
 -- there is one place
-pub IsPlace-place : (x1 x2 p s : ℕ) → x1 ≤ 10 ^ 6 → x2 ≤ 10 ^ 6 → IsPlace x1 x2 p s → s ≡ place x1 x2 p
+pub IsPlace-place : (x1 x2 p s : ℕ) → x1 ≤ END → x2 ≤ END → IsPlace x1 x2 p s → s ≡ place x1 x2 p
 IsPlace-place x1 x2 p s p1 p2 h =
     let k = place-IsPlace x1 x2 p p1 p2 in
     omega (arith, h.greatest (place x1 x2 p) k.within k.not_past, k.greatest s h.within h.not_past)
 
 -- ---- the bracket
 
-scaled_root : (x p q : ℕ) → x * ONE ≡ p * (q * 10 ^ 6) → ONE * ONE * ONE * x ≡ q * bound p
+scaled_root : (x p q : ℕ) → x * ONE ≡ p * (q * END) → ONE * ONE * ONE * x ≡ q * bound p
 scaled_root x p q h = omega arith
 
 not_less : (l r q x y : ℕ) → l ≡ q * y → r ≡ q * x → x ≤ y → l < r → ⊥
@@ -63,7 +63,7 @@ not_less l r q x y l_is r_is h less = omega (arith, mul-le-mul_left q h)
 not_above : (l r q x y : ℕ) → l ≡ q * y → r ≡ q * x → y < x → 0 < q → r ≤ l → ⊥
 not_above l r q x y l_is r_is h some above = omega (arith, mul-lt-mul_of_pos_left {m = y} {n = x} {k = q} h some)
 
-module _ (x1 x2 p a b : ℕ) (p1 : x1 ≤ 10 ^ 6) (p2 : x2 ≤ 10 ^ 6) (inside : a ≤ b) (root : across b x1 x2 a * ONE ≡ p * (b * b * b * 10 ^ 6)) where
+module _ (x1 x2 p a b : ℕ) (p1 : x1 ≤ END) (p2 : x2 ≤ END) (inside : a ≤ b) (root : across b x1 x2 a * ONE ≡ p * (b * b * b * END)) where
   -- how far across the curve is at the root, with b * ONE steps along it
   across-root : across (b * ONE) x1 x2 (ONE * a) ≡ b * b * b * bound p
   across-root =
@@ -105,7 +105,7 @@ module _ (x1 x2 p a b : ℕ) (p1 : x1 ≤ 10 ^ 6) (p2 : x2 ≤ 10 ^ 6) (inside :
 -- ---- the bisection
 
 -- where the gap between a step that is not past p and one that is has closed, the first is the place
-pub place-from_gap : (x1 x2 p low high : ℕ) → x1 ≤ 10 ^ 6 → x2 ≤ 10 ^ 6 → low < high → high ≤ low + 1 → high ≤ ONE + 1 → across ONE x1 x2 low ≤ bound p → (high ≤ ONE → bound p < across ONE x1 x2 high) → low ≡ place x1 x2 p
+pub place-from_gap : (x1 x2 p low high : ℕ) → x1 ≤ END → x2 ≤ END → low < high → high ≤ low + 1 → high ≤ ONE + 1 → across ONE x1 x2 low ≤ bound p → (high ≤ ONE → bound p < across ONE x1 x2 high) → low ≡ place x1 x2 p
 place-from_gap x1 x2 p low high p1 p2 less gap fits not_past past =
     IsPlace-place x1 x2 p low p1 p2 (record {
       within = omega arith;
@@ -118,7 +118,7 @@ place-from_gap x1 x2 p low high p1 p2 less gap fits not_past past =
 
 -- ---- the ends
 
-place-zero : (x1 x2 : ℕ) → x1 ≤ 10 ^ 6 → x2 ≤ 10 ^ 6 → 0 ≡ place x1 x2 0
+place-zero : (x1 x2 : ℕ) → x1 ≤ END → x2 ≤ END → 0 ≡ place x1 x2 0
 place-zero x1 x2 p1 p2 = IsPlace-place x1 x2 0 0 p1 p2 (record {
   within = omega arith;
   not_past = omega arith;
@@ -128,7 +128,7 @@ place-zero x1 x2 p1 p2 = IsPlace-place x1 x2 0 0 p1 p2 (record {
   ];
 })
 
-place-one : (x1 x2 : ℕ) → x1 ≤ 10 ^ 6 → x2 ≤ 10 ^ 6 → ONE ≡ place x1 x2 ONE
+place-one : (x1 x2 : ℕ) → x1 ≤ END → x2 ≤ END → ONE ≡ place x1 x2 ONE
 place-one x1 x2 p1 p2 = IsPlace-place x1 x2 ONE ONE p1 p2 (record {
   within = omega arith;
   not_past = omega arith;
@@ -138,17 +138,17 @@ place-one x1 x2 p1 p2 = IsPlace-place x1 x2 ONE ONE p1 p2 (record {
 height-zero : (y1 y2 : ℤ) → height ONE y1 y2 0 ≡ pos 0
 height-zero y1 y2 = rw (zero-*ℤ y1, zero-*ℤ y2)
 
-height-one : (y1 y2 : ℤ) → height ONE y1 y2 ONE ≡ pos (ONE * ONE * ONE * 10 ^ 6)
+height-one : (y1 y2 : ℤ) → height ONE y1 y2 ONE ≡ pos (ONE * ONE * ONE * END)
 height-one y1 y2 = rw (zero-*ℤ y1, zero-*ℤ y2)
 
-pub cubic_value-zero : (c : CubicParts) → unsigned_abs c.x1 ≤ 10 ^ 6 → unsigned_abs c.x2 ≤ 10 ^ 6 → cubic_value c 0 ≡ pos 0
+pub cubic_value-zero : (c : CubicParts) → unsigned_abs c.x1 ≤ END → unsigned_abs c.x2 ≤ END → cubic_value c 0 ≡ pos 0
 unfolding cubic_value
 cubic_value-zero c p1 p2 =
-    subst (λ s. int_div_euclid (height ONE c.y1 c.y2 s) (pos (ONE * ONE * 10 ^ 6)) ≡ pos 0) (place-zero (unsigned_abs c.x1) (unsigned_abs c.x2) p1 p2)
+    subst (λ s. int_div_euclid (height ONE c.y1 c.y2 s) (pos (ONE * ONE * END)) ≡ pos 0) (place-zero (unsigned_abs c.x1) (unsigned_abs c.x2) p1 p2)
     (rw (height-zero c.y1 c.y2))
 
-pub cubic_value-one : (c : CubicParts) → unsigned_abs c.x1 ≤ 10 ^ 6 → unsigned_abs c.x2 ≤ 10 ^ 6 → cubic_value c ONE ≡ pos ONE
+pub cubic_value-one : (c : CubicParts) → unsigned_abs c.x1 ≤ END → unsigned_abs c.x2 ≤ END → cubic_value c ONE ≡ pos ONE
 unfolding cubic_value
 cubic_value-one c p1 p2 =
-    subst (λ s. int_div_euclid (height ONE c.y1 c.y2 s) (pos (ONE * ONE * 10 ^ 6)) ≡ pos ONE) (place-one (unsigned_abs c.x1) (unsigned_abs c.x2) p1 p2)
+    subst (λ s. int_div_euclid (height ONE c.y1 c.y2 s) (pos (ONE * ONE * END)) ≡ pos ONE) (place-one (unsigned_abs c.x1) (unsigned_abs c.x2) p1 p2)
     (rw (height-one c.y1 c.y2))

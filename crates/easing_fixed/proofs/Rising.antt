@@ -1,7 +1,8 @@
 -- How far across a curve is rises strictly with the parameter.
-use Rattle.std.proofs.Common.{◌≡◌, ℕ, ◌+◌, ◌-◌, ◌*◌, ◌^◌, ◌<◌, ◌≤◌, inl, inr, subst, arith}
+use Rattle.std.proofs.Common.{◌≡◌, ℕ, ◌+◌, ◌-◌, ◌*◌, ◌<◌, ◌≤◌, inl, inr, subst, arith}
 use Rattle.std.proofs.lemmas.Bool.{cases_lt}
 use Rattle.std.proofs.Math.Nat.{mul-pos}
+use Rattle.easing_fixed.specs.declared.TheConstants.{END}
 use Rattle.easing_fixed.specs.Cubics.{first_weight, second_weight, end_weight, across}
 
 -- the curve by the two distances from its ends
@@ -46,12 +47,12 @@ across_by-rises a r d x1 x2 m p q = elim (cases_lt x2 x1) [
 ]
 
 -- the curve rises by the cube of the distance at least
-across-rises_by : (n x1 x2 r d : ℕ) → x1 ≤ 10 ^ 6 → x2 ≤ 10 ^ 6 → r + d ≤ n → across n x1 x2 r + d * d * d * 10 ^ 6 ≤ across n x1 x2 (r + d)
+across-rises_by : (n x1 x2 r d : ℕ) → x1 ≤ END → x2 ≤ END → r + d ≤ n → across n x1 x2 r + d * d * d * END ≤ across n x1 x2 (r + d)
 across-rises_by n x1 x2 r d p q h =
     let u : (n - (r + d)) + d ≡ n - r = omega arith in
-    subst (λ y. across_by y r x1 x2 (10 ^ 6) + d * d * d * 10 ^ 6 ≤ across n x1 x2 (r + d)) u (across_by-rises (n - (r + d)) r d x1 x2 (10 ^ 6) p q)
+    subst (λ y. across_by y r x1 x2 END + d * d * d * END ≤ across n x1 x2 (r + d)) u (across_by-rises (n - (r + d)) r d x1 x2 END p q)
 
-pub across-rises : (n x1 x2 r s : ℕ) → x1 ≤ 10 ^ 6 → x2 ≤ 10 ^ 6 → r < s → s ≤ n → across n x1 x2 r < across n x1 x2 s
+pub across-rises : (n x1 x2 r s : ℕ) → x1 ≤ END → x2 ≤ END → r < s → s ≤ n → across n x1 x2 r < across n x1 x2 s
 across-rises n x1 x2 r s p q less fits =
     let d : ℕ = s - r in
     let e : r + d ≡ s = omega arith in
@@ -59,7 +60,7 @@ across-rises n x1 x2 r s p q less fits =
     let cube : 0 < d * d * d = mul-pos (mul-pos some some) some in
     subst (λ y. across n x1 x2 r < across n x1 x2 y) e (omega (arith, across-rises_by n x1 x2 r d p q (omega arith), cube))
 
-pub across-rises_weakly : (n x1 x2 r s : ℕ) → x1 ≤ 10 ^ 6 → x2 ≤ 10 ^ 6 → r ≤ s → s ≤ n → across n x1 x2 r ≤ across n x1 x2 s
+pub across-rises_weakly : (n x1 x2 r s : ℕ) → x1 ≤ END → x2 ≤ END → r ≤ s → s ≤ n → across n x1 x2 r ≤ across n x1 x2 s
 across-rises_weakly n x1 x2 r s p q no_more fits =
     let e : r + (s - r) ≡ s = omega arith in
     subst (λ y. across n x1 x2 r ≤ across n x1 x2 y) e (omega (arith, across-rises_by n x1 x2 r (s - r) p q (omega arith)))
@@ -75,7 +76,7 @@ across-scaled k n x1 x2 s h =
     let e : (n - s) + s ≡ n = omega arith in
     let products : k * (n - s) + k * s ≡ k * n = subst (λ y. k * (n - s) + k * s ≡ k * y) e (omega arith) in
     let u : k * (n - s) ≡ k * n - k * s = omega arith in
-    subst (λ y. across_by y (k * s) x1 x2 (10 ^ 6) ≡ k * k * k * across n x1 x2 s) u (scaled_by k (n - s) s x1 x2 (10 ^ 6))
+    subst (λ y. across_by y (k * s) x1 x2 END ≡ k * k * k * across n x1 x2 s) u (scaled_by k (n - s) s x1 x2 END)
 
 -- ---- the weights
 

@@ -2,9 +2,9 @@
 --
 -- Control numbers are in millionths. A parameter s goes along the curve in n steps, from 0 to n; an easing takes ONE
 -- of them. How far across and how high the curve is at s is in millionths of n * n * n.
-use Rattle.std.specs.Prelude.{ℕ, zero, suc, ◌+◌, ◌-◌, ◌*◌, ◌^◌, ◌≤◌, ℤ, pos, ◌+ℤ◌, ◌*ℤ◌, int_le, unsigned_abs, Bool, not, ◌&&◌, nat_le, if◌then◌else◌, Option, Some, None}
+use Rattle.std.specs.Prelude.{◌≡◌, ℕ, zero, suc, ◌+◌, ◌-◌, ◌*◌, ◌^◌, ◌≤◌, ℤ, pos, ◌+ℤ◌, ◌*ℤ◌, int_le, unsigned_abs, Bool, not, ◌&&◌, nat_le, if◌then◌else◌, Option, Some, None}
 use Rattle.std.specs.Int.{int_div_euclid}
-use Rattle.easing_fixed.specs.declared.TheConstants.{ONE}
+use Rattle.easing_fixed.specs.declared.TheConstants.{ONE, END, LARGEST_Y}
 use Rattle.easing_fixed.specs.declared.fault.EasingFault.{EasingFault}
 use Rattle.easing_fixed.specs.declared.fault.EasingFault.TheVariants.{XOutOfRange, YOutOfRange}
 
@@ -20,10 +20,10 @@ abbrev pub cubic_parts : ℤ → ℤ → ℤ → ℤ → CubicParts
 cubic_parts x1 y1 x2 y2 = record { x1 = x1; y1 = y1; x2 = x2; y2 = y2 }
 
 abbrev pub is_x : ℤ → Bool
-is_x x = int_le (pos 0) x && int_le x (pos (10 ^ 6))
+is_x x = int_le (pos 0) x && int_le x (pos END)
 
 abbrev pub is_y : ℤ → Bool
-is_y y = nat_le (unsigned_abs y) (10 ^ 7)
+is_y y = nat_le (unsigned_abs y) LARGEST_Y
 
 -- why the parts make no cubic
 abbrev pub cubic_refusal : CubicParts → Option EasingFault
@@ -31,6 +31,10 @@ cubic_refusal c =
     if not (is_x c.x1 && is_x c.x2) then Some XOutOfRange else
     if not (is_y c.y1 && is_y c.y2) then Some YOutOfRange else
     None
+
+-- what may be the parts of a cubic
+abbrev pub IsCubic : CubicParts → Type 0
+IsCubic c = cubic_refusal c ≡ None
 
 -- ---- the curve
 
@@ -46,17 +50,17 @@ end_weight s = s * s * s
 
 -- how far across the curve is
 abbrev pub across : ℕ → ℕ → ℕ → ℕ → ℕ
-across n x1 x2 s = first_weight n s * x1 + second_weight n s * x2 + end_weight s * 10 ^ 6
+across n x1 x2 s = first_weight n s * x1 + second_weight n s * x2 + end_weight s * END
 
 -- how high the curve is
 abbrev pub height : ℕ → ℤ → ℤ → ℕ → ℤ
-height n y1 y2 s = pos (first_weight n s) *ℤ y1 +ℤ pos (second_weight n s) *ℤ y2 +ℤ pos (end_weight s * 10 ^ 6)
+height n y1 y2 s = pos (first_weight n s) *ℤ y1 +ℤ pos (second_weight n s) *ℤ y2 +ℤ pos (end_weight s * END)
 
 -- ---- the place at a progress
 
 -- what 1 of a progress or a value is, in the unit of `across ONE` and `height ONE`
 abbrev pub unit : ℕ
-unit = ONE * ONE * 10 ^ 6
+unit = ONE * ONE * END
 
 abbrev pub bound : ℕ → ℕ
 bound p = p * unit

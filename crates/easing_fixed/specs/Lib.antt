@@ -1,4 +1,6 @@
+pub mod Starts
 pub mod Steps
 pub mod Cubics
 pub mod Easings
+pub mod Evaluators
 pub mod Worked

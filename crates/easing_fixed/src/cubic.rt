@@ -1,9 +1,10 @@
-ghost use Rattle.std.specs.Prelude.{◌≡◌, ◌*◌, ◌^◌, ◌≤◌, pos, unsigned_abs, IsFalse, IfOk, MatchResult, None};
+ghost use Rattle.std.specs.Prelude.{◌≡◌, ◌*◌, ◌≤◌, pos, unsigned_abs, IsFalse, IfOk, MatchResult};
 ghost use Rattle.std.specs.Result.{result_err};
-ghost use Rattle.easing_fixed.specs.Cubics.{cubic_parts, cubic_refusal, is_x, is_y, cubic_value};
+ghost use Rattle.easing_fixed.specs.Cubics.{cubic_parts, cubic_refusal, IsCubic, is_x, is_y, cubic_value};
 
-use crate::curve::{self, UNIT};
-use crate::{EasingFault, ONE};
+use crate::search::quick_place;
+use crate::start::{START_COUNT, starts};
+use crate::{END, EasingFault, LARGEST_Y, ONE, curve};
 use std::marker::Model;
 
 /// A cubic Bézier curve from (0, 0) to (1, 1) by its two control points, after CSS Easing Functions Level 1.
@@ -11,30 +12,43 @@ use std::marker::Model;
 /// The numbers of the control points are in millionths. The curve gives a progress p the height at which it is p
 /// far across. That the place on the curve is a whole number of steps of which there are [`ONE`], the greatest one
 /// that is not past p, and that the height is rounded down, are this project's own.
-#[derive(Clone, Copy, Debug, PartialEq, Eq, Hash)]
+#[derive(Clone, Copy)]
+#[derive_where(Debug, PartialEq, Eq, Hash)]
 pub struct CubicShape {
     x1: u32,
     y1: i32,
     x2: u32,
     y2: i32,
+    // How far across the curve is at each end of its intervals.
+    #[derive_where(skip)]
+    starts: [u128; START_COUNT],
 }
 
 impl Model for CubicShape {
-    ghost use Rattle.std.specs.Prelude.{◌≡◌, pos, unsigned_abs, None};
-    ghost use Rattle.easing_fixed.specs.Cubics.{CubicParts, cubic_parts, cubic_refusal};
+    ghost use Rattle.std.specs.Prelude.{pos, unsigned_abs};
+    ghost use Rattle.std.specs.Prelude.{◌≡◌};
+    ghost use Rattle.easing_fixed.specs.Cubics.{CubicParts, cubic_parts, IsCubic};
+    ghost use Rattle.easing_fixed.specs.Starts.{starts_of};
 
     ghost Value = { CubicParts };
 
     ghost view = { λ c. cubic_parts (pos c.x1) c.y1 (pos c.x2) c.y2 };
 
-    ghost invariant = { λ c. cubic_refusal (cubic_parts (pos c.x1) c.y1 (pos c.x2) c.y2) ≡ None };
+    ghost invariant = { λ c.
+        IsCubic (cubic_parts (pos c.x1) c.y1 (pos c.x2) c.y2) × (c.starts ≡ starts_of c.x1 c.x2) };
 
-    ghost inverse = { λ c. record { x1 = unsigned_abs c.x1; y1 = c.y1; x2 = unsigned_abs c.x2; y2 = c.y2 } };
+    ghost inverse = { λ c. record {
+      x1 = unsigned_abs c.x1;
+      y1 = c.y1;
+      x2 = unsigned_abs c.x2;
+      y2 = c.y2;
+      starts = starts_of (unsigned_abs c.x1) (unsigned_abs c.x2);
+    } };
 }
 
 impl CubicShape {
-    /// Makes a curve with the control points (x1, y1) and (x2, y2), in millionths: each x from 0 to 1,000,000, each
-    /// y from -10,000,000 to 10,000,000. The x's are judged first.
+    /// Makes a curve with the control points (x1, y1) and (x2, y2), in millionths: each x from 0 to [`END`], each y at
+    /// most [`LARGEST_Y`] in size. The x's are judged first.
     pub fn new(x1: i64, y1: i64, x2: i64, y2: i64) -> Result<CubicShape, EasingFault>
         ensures refused { result_err result ≡ cubic_refusal (cubic_parts x1 y1 x2 y2) }
         ensures parts { IfOk result (λ shape. shape ≡ cubic_parts x1 y1 x2 y2) }
@@ -43,23 +57,29 @@ impl CubicShape {
         let x2 = x_of(x2)?;
         let y1 = y_of(y1)?;
         let y2 = y_of(y2)?;
-        Ok(CubicShape { x1, y1, x2, y2 })
+        Ok(CubicShape::of(x1, y1, x2, y2))
     }
 
     // The curve with these control points.
     pub(crate) fn of(x1: u32, y1: i32, x2: u32, y2: i32) -> CubicShape
-        requires { cubic_refusal (cubic_parts (pos x1) y1 (pos x2) y2) ≡ None }
+        requires { IsCubic (cubic_parts (pos x1) y1 (pos x2) y2) }
         ensures { result ≡ cubic_parts (pos x1) y1 (pos x2) y2 }
     {
-        CubicShape { x1, y1, x2, y2 }
+        CubicShape {
+            x1,
+            y1,
+            x2,
+            y2,
+            starts: starts(x1, x2),
+        }
     }
 
     /// How far across the first control point is.
     pub fn x1(&self) -> i64
         ensures value { result ≡ self.now.x1 }
 
-        // What holds of every shape: `new` would take its parts.
-        ensures in_range { cubic_refusal self.now ≡ None }
+        // So are the parts of every shape.
+        ensures in_range { IsCubic self.now }
     {
         i64::from(self.x1)
     }
@@ -92,18 +112,29 @@ impl CubicShape {
         ensures value { result ≡ cubic_value self.now p }
         ensures size { unsigned_abs result ≤ 10 * ONE }
     {
-        let place = curve::place(self.x1, self.x2, p);
-        curve::height(self.y1, self.y2, place).div_euclid(i128::from(UNIT)) as i64
+        curve::level(self.y1, self.y2, curve::place(self.x1, self.x2, p))
+    }
+
+    /// The same as [`CubicShape::value`], several times as fast: the start table leaves a sixteenth of the curve to
+    /// search, and each look aims at where the curve should be as far across as p.
+    #[tactic(auto, unfolding(crate::specs::Cubics::cubic_value))]
+    pub fn quick_value(&self, p: u32) -> i64
+        requires { p ≤ ONE }
+        ensures value { result ≡ cubic_value self.now p }
+        ensures size { unsigned_abs result ≤ 10 * ONE }
+    {
+        let place = quick_place(self.x1, self.x2, &self.starts, p);
+        curve::level(self.y1, self.y2, place)
     }
 }
 
 // The x of a control point.
 fn x_of(x: i64) -> Result<u32, EasingFault>
     ensures { MatchResult result
-        (λ n. (x ≡ pos n) × (n ≤ 10 ^ 6))
+        (λ n. (x ≡ pos n) × (n ≤ END))
         (λ fault. (fault ≡ EasingFault.XOutOfRange) × IsFalse (is_x x)) }
 {
-    if (0..=1_000_000).contains(&x) {
+    if (0..=i64::from(END)).contains(&x) {
         Ok(x as u32)
     } else {
         Err(EasingFault::XOutOfRange)
@@ -113,10 +144,10 @@ fn x_of(x: i64) -> Result<u32, EasingFault>
 // The y of a control point.
 fn y_of(y: i64) -> Result<i32, EasingFault>
     ensures { MatchResult result
-        (λ n. (y ≡ n) × (unsigned_abs n ≤ 10 ^ 7))
+        (λ n. (y ≡ n) × (unsigned_abs n ≤ LARGEST_Y))
         (λ fault. (fault ≡ EasingFault.YOutOfRange) × IsFalse (is_y y)) }
 {
-    if y.unsigned_abs() <= 10_000_000 {
+    if y.unsigned_abs() <= u64::from(LARGEST_Y) {
         Ok(y as i32)
     } else {
         Err(EasingFault::YOutOfRange)

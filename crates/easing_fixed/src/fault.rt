@@ -3,13 +3,13 @@ use thiserror::Error;
 /// Why numbers make no easing.
 #[derive(Clone, Copy, Debug, PartialEq, Eq, Hash, Error)]
 pub enum EasingFault {
-    /// There are 1 to 1,000,000 steps, and at least 2 where nothing jumps at the ends.
+    /// There are 1 to [`crate::MOST_STEPS`] steps, and at least 2 where nothing jumps at the ends.
     #[error("the number of steps is out of range")]
     BadCount,
-    /// x1 and x2 are 0 to 1,000,000 millionths.
+    /// x1 and x2 are 0 to [`crate::END`].
     #[error("an x of a control point is out of range")]
     XOutOfRange,
-    /// y1 and y2 are -10,000,000 to 10,000,000 millionths.
+    /// y1 and y2 are at most [`crate::LARGEST_Y`] in size.
     #[error("a y of a control point is out of range")]
     YOutOfRange,
 }

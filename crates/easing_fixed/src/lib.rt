@@ -8,20 +8,34 @@
 pub mod cubic;
 mod curve;
 pub mod easing;
+pub mod evaluator;
 pub mod fault;
 pub mod laws;
 pub mod position;
+mod search;
+mod start;
 pub mod step;
 pub mod worked;
 
 pub use cubic::CubicShape;
 pub use easing::Easing;
+pub use evaluator::{EasingFunction, Evaluator};
 pub use fault::EasingFault;
 pub use position::StepPosition;
 pub use step::StepShape;
 
 /// What stands for 1, in a progress and in what an easing gives: 2^20.
 pub const ONE: u32 = 1 << 20;
+
+/// The most steps of a step function.
+pub const MOST_STEPS: u32 = 1_000_000;
+
+/// What stands for 1 in the numbers of a control point, which are in millionths. Every curve ends at (END, END), and
+/// no control point is farther across.
+pub const END: u32 = 1_000_000;
+
+/// The largest size of how high a control point is: ten times [`END`].
+pub const LARGEST_Y: u32 = 10_000_000;
 
 #[cfg(test)]
 mod tests;

@@ -1,8 +1,8 @@
-ghost use Rattle.std.specs.Prelude.{◌≡◌, ◌+◌, ◌*◌, ◌^◌, ◌<◌, ◌≤◌, IfOk, None};
+ghost use Rattle.std.specs.Prelude.{◌≡◌, ◌+◌, ◌*◌, ◌<◌, ◌≤◌, IfOk};
 ghost use Rattle.std.specs.Result.{result_err};
-ghost use Rattle.easing_fixed.specs.Steps.{step_parts, step_refusal, jumps, step, step_value};
+ghost use Rattle.easing_fixed.specs.Steps.{step_parts, step_refusal, AreSteps, jumps, step, step_value};
 
-use crate::{EasingFault, ONE, StepPosition};
+use crate::{EasingFault, MOST_STEPS, ONE, StepPosition};
 use std::marker::Model;
 
 /// A step function: how many steps, and where it jumps.
@@ -13,25 +13,24 @@ pub struct StepShape {
 }
 
 impl Model for StepShape {
-    ghost use Rattle.std.specs.Prelude.{◌≡◌, None};
-    ghost use Rattle.easing_fixed.specs.Steps.{StepParts, step_parts, step_refusal};
+    ghost use Rattle.easing_fixed.specs.Steps.{StepParts, step_parts, AreSteps};
 
     ghost Value = { StepParts };
 
     ghost view = { λ s. step_parts s.count s.position };
 
-    ghost invariant = { λ s. step_refusal (step_parts s.count s.position) ≡ None };
+    ghost invariant = { λ s. AreSteps (step_parts s.count s.position) };
 
     ghost inverse = { λ s. record { count = s.count; position = s.position } };
 }
 
 impl StepShape {
-    /// Makes a step function of 1 to 1,000,000 steps, or of 2 at least where it jumps between them alone.
+    /// Makes a step function of 1 to [`MOST_STEPS`] steps, or of 2 at least where it jumps between them alone.
     pub fn new(count: u32, position: StepPosition) -> Result<StepShape, EasingFault>
         ensures refused { result_err result ≡ step_refusal (step_parts count position) }
         ensures parts { IfOk result (λ shape. shape ≡ step_parts count position) }
     {
-        if count < position.least_count() || count > 1_000_000 {
+        if count < position.least_count() || count > MOST_STEPS {
             return Err(EasingFault::BadCount);
         }
         Ok(StepShape { count, position })
@@ -39,7 +38,7 @@ impl StepShape {
 
     // The step function of this count and position.
     pub(crate) fn of(count: u32, position: StepPosition) -> StepShape
-        requires { step_refusal (step_parts count position) ≡ None }
+        requires { AreSteps (step_parts count position) }
         ensures { result ≡ step_parts count position }
     {
         StepShape { count, position }
@@ -49,8 +48,8 @@ impl StepShape {
     pub fn count(&self) -> u32
         ensures value { result ≡ self.now.count }
 
-        // What holds of every shape: `new` would take its parts.
-        ensures in_range { step_refusal self.now ≡ None }
+        // So are the parts of every shape.
+        ensures in_range { AreSteps self.now }
     {
         self.count
     }
@@ -76,7 +75,7 @@ impl StepShape {
     fn jumps(&self) -> u32
         ensures value { result ≡ jumps self.now }
         ensures some { 0 < result }
-        ensures size { result ≤ 10 ^ 6 + 1 }
+        ensures size { result ≤ MOST_STEPS + 1 }
     {
         match self.position {
             StepPosition::JumpStart | StepPosition::JumpEnd => self.count,

@@ -6,9 +6,9 @@ use Rattle.anim_names.specs.declared.entry.EntryKind.{EntryKind}
 use Rattle.anim_names.specs.declared.entry.EntryKind.TheVariants.{Publish, Pull, Send, Drain}
 use Rattle.anim_names.specs.declared.lane.Lane.{Lane}
 use Rattle.anim_names.specs.declared.lane.Lane.TheVariants.{Main, Compositor}
+use Rattle.anim_names.specs.Lanes.{letters_of}
 use Rattle.commit_lock.specs.Journals.{entries_of}
 use Rattle.tree_commit.specs.Trees.{Committed}
-use Rattle.tree_commit.specs.Scripts.{is_main, is_compositor}
 
 -- ---- what the entries so far say
 
@@ -78,10 +78,6 @@ abbrev pub pull_entry : List Entry → ℕ → Bool → Entry
 pull_entry entries upto pending = record { lane = Compositor; upto = upto; kind = Pull (pulled_number entries pending) }
 
 -- ---- the word of a journal
-
-abbrev pub letters_of : Lane → List Lane → ℕ
-letters_of Main word = count_by is_main word
-letters_of Compositor word = count_by is_compositor word
 
 -- the word with letters of the lane behind it, until the lane has so many
 abbrev pub filled : Lane → ℕ → List Lane → List Lane

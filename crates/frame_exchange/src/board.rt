@@ -13,13 +13,24 @@ use tree_commit::Commit;
 ///
 /// There is one board for a run; when the lanes are threads, a lock is round it. It waits for nobody. A contract sees
 /// the entries, the mailbox and the room for further entries.
-#[derive(Drop)]
 pub struct Board {
     entries: Vec<Entry>,
     mailbox: Option<Arc<Commit>>,
     published: u32,
     main: u32,
     compositor: u32,
+}
+
+impl Drop for Board {
+    fn drop(self) {
+        let Board {
+            entries: _entries,
+            mailbox: _mailbox,
+            published: _,
+            main: _,
+            compositor: _,
+        } = self;
+    }
 }
 
 impl Model for Board {
@@ -132,14 +143,14 @@ impl Board {
     pub fn entry_count(&self) -> usize
         ensures value { result ≡ length self.now.entries }
 
-        // What holds of every board.
-        ensures kept { IsExchange self.now }
+        // Of every board: its pulls go with its publishes.
+        ensures exchange { IsExchange self.now }
     {
         let _ = &self.mailbox;
         self.entries.len()
     }
 
-    /// The entry at a place, which counts from 0.
+    /// The entry at an index, from 0.
     pub fn entry_at(&self, i: usize) -> Entry
         requires { i < length self.now.entries }
         ensures { slice_get self.now.entries i ≡ Some result }

@@ -19,7 +19,7 @@ impl Model for Word {
     ghost use Rattle.std.specs.Prelude.{◌≡◌, List};
     ghost use Rattle.anim_names.specs.declared.lane.Lane.{Lane};
     ghost use Rattle.anim_names.specs.declared.lane.Lane.TheVariants.{Main, Compositor};
-    ghost use Rattle.frame_exchange.specs.Journals.{letters_of};
+    ghost use Rattle.anim_names.specs.Lanes.{letters_of};
 
     ghost Value = { List Lane };
 

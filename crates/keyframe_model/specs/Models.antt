@@ -1,13 +1,14 @@
 -- Keyframe models as plain data: what a model animates, when and how, and which value it has at a local time.
-use Rattle.std.specs.Prelude.{◌≡◌, ℕ, ◌≤◌, ◌^◌, Bool, true, false, ℤ, List, Option, IfSome, option_map, option_and_then}
+use Rattle.std.specs.Prelude.{◌≡◌, ℕ, ◌<◌, ◌≤◌, ◌^◌, Bool, true, false, ℤ, List, Option, IfSome, option_map, option_and_then}
 use Rattle.anim_names.specs.declared.property.Property.{Property}
 use Rattle.anim_names.specs.declared.property.Property.TheVariants.{Opacity, Transform}
+use Rattle.anim_timeline.specs.declared.TheConstants.{LAST_TIME}
 use Rattle.anim_delegate.specs.declared.policy.Policy.{Policy}
-use Rattle.micro_time.specs.Timings.{TimingParts, curve_time}
-use Rattle.value_blend.specs.Blends.{blend_opacity}
+use Rattle.micro_time.specs.Timings.{TimingParts, IsTiming, curve_time}
+use Rattle.value_blend.specs.Blends.{IsOpacity, blend_opacity}
 use Rattle.transform_ops.specs.declared.op.TransformOp.{TransformOp}
-use Rattle.transform_ops.specs.Lists.{blend_lists}
-use Rattle.curve_keys.specs.Curves.{Keyframes, duration_of, curve_value}
+use Rattle.transform_ops.specs.Lists.{IsList, blend_lists}
+use Rattle.curve_keys.specs.Curves.{Keyframes, IsCurve, duration_of, curve_value}
 
 -- ---- curves and values of a property
 
@@ -33,10 +34,16 @@ abbrev pub value_on : PropertyCurve → ℕ → Option PropertyValue
 value_on (OpacityCurve curve) time = option_map OpacityValue (curve_value blend_opacity curve time)
 value_on (TransformCurve curve) time = option_map TransformValue (curve_value blend_lists curve time)
 
+-- the two are one property: a line for each property, and no other two are
 abbrev pub same_property : Property → Property → Bool
 same_property Opacity Opacity = true
 same_property Transform Transform = true
 same_property _ _ = false
+
+-- what may be a curve of its property
+abbrev pub IsPropertyCurve : PropertyCurve → Type 0
+IsPropertyCurve (OpacityCurve curve) = IsCurve IsOpacity curve
+IsPropertyCurve (TransformCurve curve) = IsCurve IsList curve
 
 -- ---- models
 
@@ -64,10 +71,20 @@ model_parts id group element timeline start timing policy curve = record {
   curve = curve;
 }
 
--- what may be a model, beside what its timing and its curve may be
+-- what may be an id
+abbrev pub IsId : ℕ → Type 0
+IsId id = id < 2 ^ 32
+
+-- what may be a model
 pub record IsModel (model : Spec) : Type 0 where
+  pub id : IsId model.id
+  pub group : IsId model.group
+  pub element : IsId model.element
+  pub timeline : IsId model.timeline
+  pub start : IfSome model.start (λ start. start ≤ LAST_TIME)
+  pub timing : IsTiming model.timing
   pub duration : model.timing.duration ≡ curve_duration model.curve
-  pub start : IfSome model.start (λ start. start ≤ 2 ^ 50)
+  pub curve : IsPropertyCurve model.curve
 
 -- what of its element a model animates
 abbrev pub property_of : Spec → Property

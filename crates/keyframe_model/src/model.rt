@@ -1,9 +1,12 @@
-ghost use Rattle.std.specs.Prelude.{◌≡◌, ◌≤◌, ◌^◌, ◌↔◌, unsigned_abs, IfSome, IfOk, IsNone, IsOk, None, option_map};
+ghost use Rattle.std.specs.Prelude.{◌≡◌, ◌≤◌, ◌↔◌, unsigned_abs, IfSome, IfOk, IsNone, IsOk, None, option_map};
+ghost use Rattle.anim_timeline.specs.declared.TheConstants.{LAST_TIME};
+ghost use Rattle.micro_time.specs.declared.TheConstants.{LARGEST_LOCAL};
 ghost use Rattle.micro_time.specs.Timings.{is_done, curve_time};
 
 use crate::{CurveOf, Value};
 use anim_delegate::Policy;
 use anim_names::{ElementId, GroupId, ModelId, Property, TimelineId};
+use easing_fixed::{EasingFunction, Evaluator};
 use micro_time::Timing;
 use std::alloc::AllocError;
 use std::marker::Model;
@@ -11,7 +14,7 @@ use std::marker::Model;
 /// A keyframe model: a curve of one property of one element, when it runs, and what becomes of it once it ended.
 ///
 /// It belongs to a group, whose models start and finish together, and never changes. Contracts see it as plain data.
-#[derive(Debug, Drop)]
+#[derive(Debug)]
 pub struct ModelSpec {
     id: ModelId,
     group: GroupId,
@@ -37,6 +40,21 @@ impl Model for ModelSpec {
         IsModel (model_parts m.id m.group m.element m.timeline m.start m.timing m.policy (curve_of m.curve)) };
 }
 
+impl Drop for ModelSpec {
+    fn drop(self) {
+        let ModelSpec {
+            id: _,
+            group: _,
+            element: _,
+            timeline: _,
+            start: _,
+            timing: _,
+            policy: _,
+            curve: _curve,
+        } = self;
+    }
+}
+
 impl ModelSpec {
     ghost use Rattle.keyframe_model.specs.Models.{model_parts, IsModel, property_of, curve_duration, model_value};
     ghost use Rattle.keyframe_model.specs.Views.{curve_of, value_of};
@@ -54,9 +72,11 @@ impl ModelSpec {
         curve: CurveOf,
     ) -> ModelSpec
         requires one_duration { timing.duration ≡ curve_duration (curve_of curve) }
-        requires start_within { IfSome start (λ start. start ≤ 2 ^ 50) }
+        requires start_within { IfSome start (λ start. start ≤ LAST_TIME) }
         ensures { result ≡ model_parts id group element timeline start timing policy (curve_of curve) }
     {
+        let _ = (id.0, group.0, element.0, timeline.0, timing.duration());
+        curve.vouch();
         ModelSpec {
             id,
             group,
@@ -73,8 +93,8 @@ impl ModelSpec {
     pub fn id(&self) -> ModelId
         ensures value { result ≡ self.now.id }
 
-        // What holds of every model: `new` would take its parts.
-        ensures kept { IsModel self.now }
+        // So is every model.
+        ensures in_range { IsModel self.now }
     {
         self.id
     }
@@ -137,7 +157,7 @@ impl ModelSpec {
 
     /// Whether its iterations are over at a local time in microseconds.
     pub fn is_done(&self, local: i64) -> bool
-        requires { unsigned_abs local ≤ 2 ^ 52 }
+        requires { unsigned_abs local ≤ LARGEST_LOCAL }
         ensures { result ≡ is_done self.now.timing local }
     {
         self.timing.is_done(local)
@@ -146,14 +166,18 @@ impl ModelSpec {
     /// The value at a local time in microseconds. There is none exactly where the timing gives no time of the curve:
     /// before or after the iterations without the fill for it.
     #[tactic(auto, unfolding(crate::specs::Models::model_value))]
-    pub fn value(&self, local: i64) -> Result<Option<Value>, AllocError>
-        requires { unsigned_abs local ≤ 2 ^ 52 }
+    pub fn value<E: EasingFunction>(
+        &self,
+        local: i64,
+        evaluator: &Evaluator<E>,
+    ) -> Result<Option<Value>, AllocError>
+        requires { unsigned_abs local ≤ LARGEST_LOCAL }
         ensures value { IfOk result (λ value. option_map value_of value ≡ model_value self.now local) }
         ensures none { IfOk result (λ value. IsNone value ↔ (curve_time self.now.timing local ≡ None)) }
         ensures without_memory { property_of self.now ≡ Property.Opacity → IsOk result }
     {
         match self.timing.curve_time(local) {
-            Some(time) => Ok(Some(self.curve.value_at(time)?)),
+            Some(time) => Ok(Some(self.curve.value_at(time, evaluator)?)),
             None => Ok(None),
         }
     }

@@ -1,5 +1,5 @@
 -- Main's tree with what edits of it are checked against.
-use Rattle.std.specs.Prelude.{◌≡◌, ℕ, ◌+◌, List, Bool, true, IsTrue, map, All, Option, Some, None}
+use Rattle.std.specs.Prelude.{◌≡◌, ℕ, List, Bool, true, IsTrue, map, All, Option, Some, None}
 use Rattle.std.specs.declared.alloc.Global.{Global}
 use Rattle.std.specs.declared.sync.Arc.{Arc}
 use Rattle.keyframe_model.specs.Models.{Spec}
@@ -7,7 +7,7 @@ use Rattle.tree_commit.specs.declared.base.Base.{Base}
 use Rattle.tree_commit.specs.declared.edits.fault.EditFault.{EditFault}
 use Rattle.tree_commit.specs.declared.edits.fault.EditFault.TheVariants.{Refused, NoMemory}
 use Rattle.tree_commit.specs.declared.edits.refusal.EditRefusal.{EditRefusal}
-use Rattle.tree_commit.specs.Trees.{TreeLists, Committed, empty_tree, has_model}
+use Rattle.tree_commit.specs.Trees.{TreeLists, empty_tree, has_model}
 use Rattle.tree_commit.specs.Edits.{Change, AddElement, RemoveElement, SetOpacity, SetTransform, AddTimeline, AddModel, RemoveModel, Book, new_book, is_in, tree_after, book_after, book_after_commit}
 use Rattle.tree_commit.specs.Tables.{tree_of, HasAllTimelines}
 
@@ -34,10 +34,6 @@ after_edit edited change = record { tree = tree_after edited.tree change; book =
 abbrev pub after_commit : EditedTree → EditedTree
 after_commit edited = record edited { book = book_after_commit edited.book }
 
--- the commit that a commit step makes
-abbrev pub next_commit : EditedTree → Committed
-next_commit edited = record { number = edited.book.commits + 1; tree = edited.tree }
-
 -- ---- answers
 
 -- Whether an edit that is not refused finds what it is about. Only a model that is to be removed may be gone.
@@ -56,7 +52,7 @@ refusal_in None = None
 refusal_in (Some NoMemory) = None
 refusal_in (Some (Refused refusal)) = Some refusal
 
--- ---- what holds of both
+-- ---- the tree beside its book
 
 -- The tree and its book go together: the book names the elements and the timelines of the tree, in their order, each
 -- model of the tree was added, and its timeline is there.

@@ -1,10 +1,11 @@
 ghost use Rattle.std.specs.Prelude.{◌≡◌, ◌==◌, ◌<◌, ◌≤◌, false, None, map, IfOk, OnOk, OnErr};
 ghost use Rattle.std.specs.Result.{result_err};
-ghost use Rattle.tree_commit.specs.Trees.{has_model};
+ghost use Rattle.tree_commit.specs.Trees.{has_model, next_commit};
 ghost use Rattle.tree_commit.specs.Edits.{AddElement, AddModel, AddTimeline, RemoveElement, RemoveModel, SetOpacity, SetTransform, edit_refusal, with_look, without};
 ghost use Rattle.tree_commit.specs.Tables.{element_of};
 ghost use Rattle.tree_commit.specs.Views.{change_of, look_of};
 
+use anim_names::limit::MOST_COMMITS;
 use anim_names::{ElementId, ModelId, TimelineId};
 use anim_timeline::Timeline;
 use indexmap::IndexMap;
@@ -20,12 +21,22 @@ use value_blend::Opacity;
 /// are checked against.
 ///
 /// There is one, and it lives on main's thread. What the compositor sees of it are commits.
-#[derive(Drop)]
 pub struct MainTree {
     book: EditBook,
     elements: IndexMap<ElementId, Base>,
     models: IndexMap<ModelId, Arc<ModelSpec>>,
     timelines: IndexMap<TimelineId, Timeline>,
+}
+
+impl Drop for MainTree {
+    fn drop(self) {
+        let MainTree {
+            book: _book,
+            elements: _elements,
+            models: _models,
+            timelines: _timelines,
+        } = self;
+    }
 }
 
 impl Model for MainTree {
@@ -44,7 +55,7 @@ impl Model for MainTree {
 }
 
 impl MainTree {
-    ghost use Rattle.main_tree.specs.EditedTrees.{after_commit, after_edit, finds_its_target, new_tree, next_commit, refusal_in, GoesWithBook};
+    ghost use Rattle.main_tree.specs.EditedTrees.{after_commit, after_edit, finds_its_target, new_tree, refusal_in, GoesWithBook};
 
     /// The tree before any edit, which has nothing in it.
     pub fn new(alloc: Global) -> Result<MainTree, AllocError>
@@ -62,9 +73,9 @@ impl MainTree {
     pub fn commits(&self) -> u32
         ensures value { result ≡ self.now.book.commits }
 
-        // What holds of every tree: there are at most 256, and the tree and its book go together.
-        ensures within { result ≤ 256 }
-        ensures kept { GoesWithBook self.now }
+        // Of every tree: no more commits than may be made, and the tree and its book go together.
+        ensures within { result ≤ MOST_COMMITS }
+        ensures together { GoesWithBook self.now }
     {
         self.book.commits()
     }
@@ -87,8 +98,8 @@ impl MainTree {
 
     /// The tree as it is, under the next number.
     pub fn commit(&mut self) -> Result<Arc<Commit>, AllocError>
-        requires { self.old.book.commits < 256 }
-        ensures given { IfOk result (λ commit. commit.value ≡ next_commit self.old) }
+        requires { self.old.book.commits < MOST_COMMITS }
+        ensures given { IfOk result (λ commit. commit.value ≡ next_commit self.old.book.commits self.old.tree) }
         ensures counted { OnOk result (self.new ≡ after_commit self.old) }
         ensures err { OnErr result (self.new ≡ self.old) }
     {

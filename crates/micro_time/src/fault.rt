@@ -3,15 +3,15 @@ use thiserror::Error;
 /// A number of a timing, in the order in which they are judged.
 #[derive(Clone, Copy, Debug, PartialEq, Eq, Hash)]
 pub enum TimingField {
-    /// 1 to 2^36 microseconds.
+    /// 1 to [`crate::LONGEST_DURATION`] microseconds.
     Duration,
-    /// -2^40 to 2^40 microseconds.
+    /// At most [`crate::LARGEST_OFFSET`] microseconds in size.
     Offset,
-    /// 0 to 10^9 thousandths, or infinite.
+    /// 0 to [`crate::MOST_ITERATIONS`] thousandths, or infinite.
     Iterations,
-    /// 0 to 10^6 thousandths of an iteration.
+    /// 0 to [`crate::LAST_ITERATION_START`] thousandths of an iteration.
     IterationStart,
-    /// -10^6 to 10^6 thousandths, and not 0.
+    /// At most [`crate::LARGEST_RATE`] thousandths in size, and not 0.
     Rate,
 }
 

@@ -1,17 +1,22 @@
-ghost use Rattle.std.specs.Prelude.{◌≡◌, ◌+◌, ◌*◌, ◌^◌, ◌<◌, ◌≤◌, unsigned_abs, IfOk, IfSome, None};
+ghost use Rattle.std.specs.Prelude.{◌≡◌, ◌+◌, ◌*◌, ◌^◌, ◌<◌, ◌≤◌, unsigned_abs, IfOk, IfSome};
 ghost use Rattle.std.specs.Result.{result_err};
-ghost use Rattle.micro_time.specs.Timings.{timing_parts, refusal, phase, is_done, curve_time};
-ghost use Rattle.micro_time.specs.Timings.{elapsed, covered, total, progress_in, skipped, place_in};
+ghost use Rattle.micro_time.specs.declared.TheConstants.{LARGEST_LOCAL};
+ghost use Rattle.micro_time.specs.Timings.{timing_parts, refusal, IsTiming, phase, is_done, curve_time};
+ghost use Rattle.micro_time.specs.Timings.{elapsed, covered, total, progress_in, skipped, position_in};
 ghost use Rattle.micro_time.specs.Timings.{one_iteration, is_last_end, iteration_at, part_at, time_at};
 
-use crate::{Direction, Fill, Iterations, Phase, TimingFault, TimingField};
+use crate::{
+    Direction, Fill, Iterations, LARGEST_OFFSET, LARGEST_RATE, LAST_ITERATION_START,
+    LONGEST_DURATION, MOST_ITERATIONS, Phase, TimingFault, TimingField,
+};
 use std::marker::Model;
 
 /// When an animation runs, and in which order it runs through its curve.
 ///
 /// The equations follow the outline of cc/animation and of Web Animations: a local time and the offset make the time
 /// that has elapsed, this and the rate make the progress, and the progress gives an iteration and a part of it. The
-/// units and ranges, that nothing is rounded before the last step, and the rule for the fill are this project's own.
+/// units and ranges, that nothing is rounded before the last step, and the rule for the fill are this project's own. A timing does not know when its animation starts: local times count from
+/// there.
 #[derive(Clone, Copy, Debug, PartialEq, Eq, Hash)]
 pub struct Timing {
     duration: u64,
@@ -24,8 +29,7 @@ pub struct Timing {
 }
 
 impl Model for Timing {
-    ghost use Rattle.std.specs.Prelude.{◌≡◌, None};
-    ghost use Rattle.micro_time.specs.Timings.{TimingParts, timing_parts, refusal};
+    ghost use Rattle.micro_time.specs.Timings.{TimingParts, timing_parts, IsTiming};
 
     ghost Value = { TimingParts };
 
@@ -33,7 +37,7 @@ impl Model for Timing {
         timing_parts t.duration t.offset t.iterations t.iteration_start t.direction t.fill t.rate };
 
     ghost invariant = { λ t.
-        refusal (timing_parts t.duration t.offset t.iterations t.iteration_start t.direction t.fill t.rate) ≡ None };
+        IsTiming (timing_parts t.duration t.offset t.iterations t.iteration_start t.direction t.fill t.rate) };
 
     ghost inverse = { λ t. record {
       duration = t.duration;
@@ -63,21 +67,21 @@ impl Timing {
         ensures parts { IfOk result (λ timing.
             timing ≡ timing_parts duration offset iterations iteration_start direction fill rate) }
     {
-        if duration == 0 || duration > 1 << 36 {
+        if duration == 0 || duration > LONGEST_DURATION {
             return Err(TimingFault::OutOfRange(TimingField::Duration));
         }
-        if offset.unsigned_abs() > 1 << 40 {
+        if offset.unsigned_abs() > LARGEST_OFFSET {
             return Err(TimingFault::OutOfRange(TimingField::Offset));
         }
         if let Iterations::Finite(count) = iterations {
-            if count > 1_000_000_000 {
+            if count > MOST_ITERATIONS {
                 return Err(TimingFault::OutOfRange(TimingField::Iterations));
             }
         }
-        if iteration_start > 1_000_000 {
+        if iteration_start > LAST_ITERATION_START {
             return Err(TimingFault::OutOfRange(TimingField::IterationStart));
         }
-        if rate == 0 || rate.unsigned_abs() > 1_000_000 {
+        if rate == 0 || rate.unsigned_abs() > LARGEST_RATE {
             return Err(TimingFault::OutOfRange(TimingField::Rate));
         }
         if iterations == Iterations::Infinite && rate < 0 {
@@ -98,8 +102,8 @@ impl Timing {
     pub fn duration(&self) -> u64
         ensures value { result ≡ self.now.duration }
 
-        // What holds of every timing: `new` would take its parts.
-        ensures in_range { refusal self.now ≡ None }
+        // So are the parts of every timing.
+        ensures in_range { IsTiming self.now }
     {
         self.duration
     }
@@ -149,7 +153,7 @@ impl Timing {
     /// Whether the animation is yet to come, runs or is over at a local time in microseconds.
     #[tactic(auto, unfolding(crate::specs::Timings::phase))]
     pub fn phase(&self, local: i64) -> Phase
-        requires { unsigned_abs local ≤ 2 ^ 52 }
+        requires { unsigned_abs local ≤ LARGEST_LOCAL }
         ensures { result ≡ phase self.now local }
     {
         if self.elapsed(local) < 0 {
@@ -164,7 +168,7 @@ impl Timing {
     /// Whether the iterations are over at a local time in microseconds.
     #[tactic(auto, unfolding(crate::specs::Timings::is_done))]
     pub fn is_done(&self, local: i64) -> bool
-        requires { unsigned_abs local ≤ 2 ^ 52 }
+        requires { unsigned_abs local ≤ LARGEST_LOCAL }
         ensures { result ≡ is_done self.now local }
     {
         self.phase(local) == Phase::After
@@ -174,13 +178,13 @@ impl Timing {
     /// after the iterations without the fill for it.
     #[tactic(auto, unfolding(crate::specs::Timings::curve_time))]
     pub fn curve_time(&self, local: i64) -> Option<u64>
-        requires { unsigned_abs local ≤ 2 ^ 52 }
+        requires { unsigned_abs local ≤ LARGEST_LOCAL }
         ensures value { result ≡ curve_time self.now local }
         ensures within { IfSome result (λ time. time ≤ self.now.duration) }
     {
         let phase = self.phase(local);
         if self.fill.is_shown(phase) {
-            Some(self.time_at(self.place(phase, local)))
+            Some(self.time_at(self.position(phase, local)))
         } else {
             None
         }
@@ -188,16 +192,16 @@ impl Timing {
 
     // How long the local time is past the beginning of the iterations.
     fn elapsed(&self, local: i64) -> i64
-        requires { unsigned_abs local ≤ 2 ^ 52 }
+        requires { unsigned_abs local ≤ LARGEST_LOCAL }
         ensures value { result ≡ elapsed self.now local }
-        ensures size { unsigned_abs result ≤ 2 ^ 52 + 2 ^ 40 }
+        ensures size { unsigned_abs result ≤ LARGEST_LOCAL + LARGEST_OFFSET }
     {
         local + self.offset
     }
 
     // What length of iterations so much time covers at this rate. Lengths are in thousandths of a microsecond.
     fn covered(&self, local: i64) -> u128
-        requires { unsigned_abs local ≤ 2 ^ 52 }
+        requires { unsigned_abs local ≤ LARGEST_LOCAL }
         ensures value { result ≡ covered self.now local }
         ensures size { result < 2 ^ 72 }
     {
@@ -207,7 +211,7 @@ impl Timing {
     // How fast it runs, whichever way.
     fn speed(&self) -> u32
         ensures value { result ≡ unsigned_abs self.now.rate }
-        ensures size { result ≤ 10 ^ 6 }
+        ensures size { result ≤ LARGEST_RATE }
     {
         self.rate.unsigned_abs()
     }
@@ -225,7 +229,7 @@ impl Timing {
 
     // What length of iterations is over.
     fn progress(&self, phase: Phase, local: i64) -> u128
-        requires { unsigned_abs local ≤ 2 ^ 52 }
+        requires { unsigned_abs local ≤ LARGEST_LOCAL }
         ensures value { result ≡ progress_in phase self.now local }
         ensures size { result < 2 ^ 72 }
     {
@@ -244,10 +248,10 @@ impl Timing {
         u128::from(self.iteration_start) * u128::from(self.duration)
     }
 
-    // The place in the iterations, counted from the beginning of iteration 0.
-    fn place(&self, phase: Phase, local: i64) -> u128
-        requires { unsigned_abs local ≤ 2 ^ 52 }
-        ensures value { result ≡ place_in phase self.now local }
+    // The position in the iterations, counted from the beginning of iteration 0.
+    fn position(&self, phase: Phase, local: i64) -> u128
+        requires { unsigned_abs local ≤ LARGEST_LOCAL }
+        ensures value { result ≡ position_in phase self.now local }
         ensures size { result < 2 ^ 73 }
     {
         let progress = self.progress(phase, local);
@@ -267,20 +271,20 @@ impl Timing {
         u128::from(self.duration) * 1000
     }
 
-    // Whether this place is the end of all iterations and of one of them, which it then still belongs to.
-    fn is_last_end(&self, place: u128) -> bool
-        ensures { result ≡ is_last_end self.now place }
+    // Whether this position is the end of all iterations and of one of them, which it then still belongs to.
+    fn is_last_end(&self, position: u128) -> bool
+        ensures { result ≡ is_last_end self.now position }
     {
         let total = self.total();
-        total > 0 && place % self.one_iteration() == 0 && place == total + self.skipped()
+        total > 0 && position % self.one_iteration() == 0 && position == total + self.skipped()
     }
 
-    // Which iteration the place is in.
-    fn iteration_at(&self, place: u128) -> u128
-        ensures { result ≡ iteration_at self.now place }
+    // Which iteration the position is in.
+    fn iteration_at(&self, position: u128) -> u128
+        ensures { result ≡ iteration_at self.now position }
     {
-        let iteration = place / self.one_iteration();
-        if self.is_last_end(place) {
+        let iteration = position / self.one_iteration();
+        if self.is_last_end(position) {
             iteration.saturating_sub(1)
         } else {
             iteration
@@ -288,23 +292,23 @@ impl Timing {
     }
 
     // What length of that iteration is over.
-    fn part_at(&self, place: u128) -> u128
-        ensures value { result ≡ part_at self.now place }
+    fn part_at(&self, position: u128) -> u128
+        ensures value { result ≡ part_at self.now position }
         ensures within { result ≤ one_iteration self.now }
     {
-        if self.is_last_end(place) {
+        if self.is_last_end(position) {
             return self.one_iteration();
         }
-        place % self.one_iteration()
+        position % self.one_iteration()
     }
 
-    // The time of the curve at this place.
-    fn time_at(&self, place: u128) -> u64
-        ensures value { result ≡ time_at self.now place }
+    // The time of the curve at this position.
+    fn time_at(&self, position: u128) -> u64
+        ensures value { result ≡ time_at self.now position }
         ensures within { result ≤ self.now.duration }
     {
-        let part = self.part_at(place);
-        let directed = if self.direction.is_backwards(self.iteration_at(place)) {
+        let part = self.part_at(position);
+        let directed = if self.direction.is_backwards(self.iteration_at(position)) {
             self.one_iteration() - part
         } else {
             part

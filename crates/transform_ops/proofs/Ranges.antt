@@ -3,10 +3,11 @@ use Rattle.std.proofs.Common.{ℕ, zero, suc, ◌+◌, ◌≤◌, Bool, true, fa
 use Rattle.std.specs.List.{AllByRecursion}
 use Rattle.std.proofs.lemmas.List.{length-map}
 use Rattle.value_blend.specs.declared.TheConstants.{ONE}
+use Rattle.transform_ops.specs.declared.TheConstants.{MOST_OPERATIONS}
 use Rattle.transform_ops.specs.declared.op.TransformOp.{TransformOp}
 use Rattle.transform_ops.specs.Operations.{matches, neutral_of, IsOperation, blend_operations}
 use Rattle.transform_ops.specs.OperationLemmas.{IsOperation-blend_operations, IsOperation-neutral}
-use Rattle.transform_ops.specs.Lists.{IsTransform, nearer_list, blend_lists}
+use Rattle.transform_ops.specs.Lists.{IsList, nearer_list, blend_lists}
 
 pub All-from_recursion : (ops : List TransformOp) → AllByRecursion IsOperation ops → All IsOperation ops
 All-from_recursion [] h k d below = absurd (omega arith)
@@ -75,9 +76,9 @@ blend_lists-within (a ∷ from) (b ∷ to) progress f t =
     (blend_lists-within from to progress f.1 t.1)
     (nearer-within (a ∷ from) (b ∷ to) progress f t)
 
-pub IsTransform-blend_lists : (from to : List TransformOp) (progress : ℤ) → IsTransform from → IsTransform to →
-    IsTransform (blend_lists from to progress)
-IsTransform-blend_lists from to progress f t = record {
-  short = length-blend_lists from to progress 8 f.short t.short;
+pub IsList-blend_lists : (from to : List TransformOp) (progress : ℤ) → IsList from → IsList to →
+    IsList (blend_lists from to progress)
+IsList-blend_lists from to progress f t = record {
+  short = length-blend_lists from to progress MOST_OPERATIONS f.short t.short;
   within = blend_lists-within from to progress f.within t.within;
 }

@@ -6,7 +6,7 @@ use Rattle.value_blend.specs.declared.TheConstants.{ONE}
 use Rattle.transform_ops.specs.declared.op.TransformOp.{TransformOp}
 use Rattle.transform_ops.specs.Operations.{IsOperation, IsNeutral, matches, neutral_of, blend_operations}
 use Rattle.transform_ops.specs.OperationLemmas.{blend_operations-begin, blend_operations-end, blend_operations-neutral_begin, blend_operations-neutral_end, matches-neutral_left, IsNeutral-neutral}
-use Rattle.transform_ops.specs.Lists.{IsTransform, IsAlike, nearer_list, blend_lists}
+use Rattle.transform_ops.specs.Lists.{IsList, IsAlike, nearer_list, blend_lists}
 
 pub IsAlike-same : (ops : List TransformOp) → IsAlike ops ops
 IsAlike-same [] = tt
@@ -56,8 +56,8 @@ ends (a ∷ from) [] t = to_none_ends (a ∷ from)
 ends (a ∷ from) (b ∷ to) t =
     ends-at a b from to (blend_lists from to (pos ONE)) (matches a b) refl t.0 (ends from to t.1)
 
-pub blend_lists-begin : (from to : List TransformOp) → IsTransform from → IsAlike (blend_lists from to (pos 0)) from
+pub blend_lists-begin : (from to : List TransformOp) → IsList from → IsAlike (blend_lists from to (pos 0)) from
 blend_lists-begin from to f = begins from to f.within
 
-pub blend_lists-end : (from to : List TransformOp) → IsTransform to → IsAlike (blend_lists from to (pos ONE)) to
+pub blend_lists-end : (from to : List TransformOp) → IsList to → IsAlike (blend_lists from to (pos ONE)) to
 blend_lists-end from to t = ends from to t.within

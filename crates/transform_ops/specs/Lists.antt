@@ -1,25 +1,26 @@
--- Lists of operations: their blend, place by place from the front, and when two lists move alike.
+-- Lists of operations: their blend, one by one from the front, and when two lists move alike.
 use Rattle.std.specs.Prelude.{◌≡◌, ℕ, ◌+◌, ◌/◌, ◌≤◌, nat_lt, not, if◌then◌else◌, ℤ, pos, int_lt, List, [], ◌∷◌, map, length, Option, Some, None}
 use Rattle.std.specs.List.{AllByRecursion, list_all}
 use Rattle.value_blend.specs.declared.TheConstants.{ONE}
+use Rattle.transform_ops.specs.declared.TheConstants.{MOST_OPERATIONS}
 use Rattle.transform_ops.specs.declared.fault.ListFault.{ListFault}
 use Rattle.transform_ops.specs.declared.fault.ListFault.TheVariants.{TooMany, OutOfRange}
 use Rattle.transform_ops.specs.declared.op.TransformOp.{TransformOp}
 use Rattle.transform_ops.specs.Operations.{matches, neutral_of, blend_operations, IsNeutral, IsOperation, is_operation}
 
 -- what may be the list of a transform
-pub record IsTransform (ops : List TransformOp) : Type 0 where
-  pub short : length ops ≤ 8
+pub record IsList (ops : List TransformOp) : Type 0 where
+  pub short : length ops ≤ MOST_OPERATIONS
   pub within : AllByRecursion IsOperation ops
 
 -- why the operations make no list
 abbrev pub list_refusal : List TransformOp → Option ListFault
 list_refusal ops =
-    if nat_lt 8 (length ops) then Some TooMany else
+    if nat_lt MOST_OPERATIONS (length ops) then Some TooMany else
     if not (list_all is_operation ops) then Some OutOfRange else
     None
 
--- how many places from the front hold operations that match
+-- how many operations from the front match
 abbrev pub match_len : List TransformOp → List TransformOp → ℕ
 match_len [] to = 0
 match_len (a ∷ from) [] = 0
@@ -30,7 +31,7 @@ abbrev pub nearer_list : List TransformOp → List TransformOp → ℤ → List 
 nearer_list from to progress = if int_lt progress (pos (ONE / 2)) then from else to
 
 -- The blend of two lists. Operations that match blend one by one. Where one list has ended, each operation that the
--- other has left blends with its neutral one. From the first place on that does not match, all is of the nearer list.
+-- other has left blends with its neutral one. From the first two on that do not match, all is of the nearer list.
 abbrev pub blend_lists : List TransformOp → List TransformOp → ℤ → List TransformOp
 blend_lists [] to progress = map (λ b. blend_operations (neutral_of b) b progress) to
 blend_lists (a ∷ from) [] progress = map (λ a. blend_operations a (neutral_of a) progress) (a ∷ from)

@@ -5,6 +5,7 @@ use Rattle.std.specs.Ordering.{int_eq}
 use Rattle.value_blend.specs.declared.TheConstants.{ONE}
 use Rattle.value_blend.specs.Blends.{IsNumber}
 use Rattle.value_blend.specs.BlendLemmas.{IsNumber-blend_number, blend_number-begin, blend_number-end}
+use Rattle.transform_ops.specs.declared.TheConstants.{SAME_SIZE}
 use Rattle.transform_ops.specs.declared.op.TransformOp.{TransformOp}
 use Rattle.transform_ops.specs.declared.op.TransformOp.TheVariants.{Translate, Scale, Rotate, Skew}
 use Rattle.transform_ops.specs.Operations.{IsOperation, IsNeutral, matches, neutral_of, blend_operations}
@@ -79,14 +80,14 @@ blend_operations-end a b h m = absurd (cc)
 zero_is_number : IsNumber (pos 0)
 zero_is_number = omega arith
 
-million_is_number : IsNumber (pos 1000000)
-million_is_number = omega arith
+same_size_is_number : IsNumber SAME_SIZE
+same_size_is_number = omega arith
 
 pub blend_operations-neutral_begin : (b : TransformOp) → blend_operations (neutral_of b) b (pos 0) ≡ neutral_of b
 blend_operations-neutral_begin (Translate u v w) =
     rw (blend_number-begin (pos 0) u zero_is_number, blend_number-begin (pos 0) v zero_is_number, blend_number-begin (pos 0) w zero_is_number) refl
 blend_operations-neutral_begin (Scale u v w) =
-    rw (blend_number-begin (pos 1000000) u million_is_number, blend_number-begin (pos 1000000) v million_is_number, blend_number-begin (pos 1000000) w million_is_number) refl
+    rw (blend_number-begin SAME_SIZE u same_size_is_number, blend_number-begin SAME_SIZE v same_size_is_number, blend_number-begin SAME_SIZE w same_size_is_number) refl
 blend_operations-neutral_begin (Rotate u v w other) = rw (blend_number-begin (pos 0) other zero_is_number) refl
 blend_operations-neutral_begin (Skew u v) =
     rw (blend_number-begin (pos 0) u zero_is_number, blend_number-begin (pos 0) v zero_is_number) refl
@@ -95,7 +96,7 @@ pub blend_operations-neutral_end : (a : TransformOp) → blend_operations a (neu
 blend_operations-neutral_end (Translate x y z) =
     rw (blend_number-end x (pos 0) zero_is_number, blend_number-end y (pos 0) zero_is_number, blend_number-end z (pos 0) zero_is_number) refl
 blend_operations-neutral_end (Scale x y z) =
-    rw (blend_number-end x (pos 1000000) million_is_number, blend_number-end y (pos 1000000) million_is_number, blend_number-end z (pos 1000000) million_is_number) refl
+    rw (blend_number-end x SAME_SIZE same_size_is_number, blend_number-end y SAME_SIZE same_size_is_number, blend_number-end z SAME_SIZE same_size_is_number) refl
 blend_operations-neutral_end (Rotate x y z angle) = rw (blend_number-end angle (pos 0) zero_is_number) refl
 blend_operations-neutral_end (Skew x y) =
     rw (blend_number-end x (pos 0) zero_is_number, blend_number-end y (pos 0) zero_is_number) refl

@@ -2,6 +2,7 @@
 use Rattle.std.specs.Prelude.{◌≡◌, Bool, true, false, ◌&&◌, ℤ, pos}
 use Rattle.std.specs.Ordering.{int_eq}
 use Rattle.value_blend.specs.Blends.{blend_number, IsNumber, is_number}
+use Rattle.transform_ops.specs.declared.TheConstants.{SAME_SIZE}
 use Rattle.transform_ops.specs.declared.op.TransformOp.{TransformOp}
 use Rattle.transform_ops.specs.declared.op.TransformOp.TheVariants.{Translate, Scale, Rotate, Skew}
 
@@ -30,7 +31,7 @@ matches _ _ = false
 -- the operation of the same kind, and about the same axis, that does nothing
 abbrev pub neutral_of : TransformOp → TransformOp
 neutral_of (Translate x y z) = Translate (pos 0) (pos 0) (pos 0)
-neutral_of (Scale x y z) = Scale (pos 1000000) (pos 1000000) (pos 1000000)
+neutral_of (Scale x y z) = Scale SAME_SIZE SAME_SIZE SAME_SIZE
 neutral_of (Rotate x y z angle) = Rotate x y z (pos 0)
 neutral_of (Skew x y) = Skew (pos 0) (pos 0)
 

@@ -3,10 +3,10 @@ use thiserror::Error;
 /// Why operations make no list.
 #[derive(Clone, Copy, Debug, PartialEq, Eq, Hash, Error)]
 pub enum ListFault {
-    /// There are more than 8.
+    /// There are more than [`crate::MOST_OPERATIONS`].
     #[error("a list has at most 8 operations")]
     TooMany,
-    /// A number is above 2^40 in size.
+    /// A number is above [`value_blend::LARGEST_NUMBER`] in size.
     #[error("a number of an operation is out of range")]
     OutOfRange,
     /// There was no memory for them.

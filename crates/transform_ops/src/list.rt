@@ -1,15 +1,17 @@
-ghost use Rattle.std.specs.Prelude.{◌≡◌, ◌≢◌, ◌<◌, ◌≤◌, ◌^◌, ◌↔◌, [], ◌++◌, length, map, All, unsigned_abs, IsTrue, OnOk, IfOk, slice_get, Some};
+ghost use Rattle.std.specs.Prelude.{◌≡◌, ◌≢◌, ◌<◌, ◌≤◌, ◌↔◌, [], ◌++◌, length, map, All, unsigned_abs, IsTrue, OnOk, IfOk, slice_get, Some};
 ghost use Rattle.std.specs.List.{AllByRecursion, list_all, take_while, zip};
 ghost use Rattle.std.specs.Result.{result_err};
+ghost use Rattle.value_blend.specs.declared.TheConstants.{LARGEST_PROGRESS};
 ghost use Rattle.transform_ops.specs.Operations.{IsOperation, is_operation, matches, neutral_of, blend_operations};
-ghost use Rattle.transform_ops.specs.Lists.{IsTransform, list_refusal, match_len, blend_lists};
+ghost use Rattle.transform_ops.specs.Lists.{IsList, list_refusal, match_len, blend_lists};
 
-use crate::{ListFault, TransformOp};
+use crate::{ListFault, MOST_OPERATIONS, TransformOp};
 use std::alloc::{AllocError, Global};
 use std::marker::Model;
 use value_blend::{Blend, ONE};
 
-/// The transform of an element: at most 8 operations, the first of which is applied last.
+/// The transform of an element: at most [`MOST_OPERATIONS`] operations, the first of which is applied
+/// last.
 ///
 /// Contracts see a list of operations.
 #[derive(Debug, Drop)]
@@ -20,22 +22,22 @@ pub struct TransformList {
 impl Model for TransformList {
     ghost use Rattle.std.specs.Prelude.{List};
     ghost use Rattle.transform_ops.specs.declared.op.TransformOp.{TransformOp};
-    ghost use Rattle.transform_ops.specs.Lists.{IsTransform};
+    ghost use Rattle.transform_ops.specs.Lists.{IsList};
 
     ghost Value = { List TransformOp };
 
     ghost view = { λ l. l.ops.items };
 
-    ghost invariant = { λ l. IsTransform l.ops.items };
+    ghost invariant = { λ l. IsList l.ops.items };
 }
 
 impl TransformList {
-    /// The list of these operations. More than 8 are refused, and else a number that is out of range.
+    /// The list of these operations. More than [`MOST_OPERATIONS`] are refused, and else a number that is out of range.
     pub fn new(alloc: Global, ops: &[TransformOp]) -> Result<TransformList, ListFault>
         ensures operations { IfOk result (λ list. list ≡ ops.now) }
         ensures refused { result ≢ Err ListFault.NoMemory → result_err result ≡ list_refusal ops.now }
     {
-        if ops.len() > 8 {
+        if ops.len() > MOST_OPERATIONS {
             return Err(ListFault::TooMany);
         }
         if !are_in_range(ops) {
@@ -51,8 +53,8 @@ impl TransformList {
     pub fn len(&self) -> usize
         ensures value { result ≡ length self.now }
 
-        // What holds of every list: `new` would take it.
-        ensures taken { IsTransform self.now }
+        // So is every list.
+        ensures taken { IsList self.now }
     {
         self.ops.len()
     }
@@ -64,7 +66,7 @@ impl TransformList {
         self.ops.is_empty()
     }
 
-    /// The operation at a place, which counts from 0.
+    /// The operation of this index, which counts from 0.
     pub fn op(&self, i: usize) -> TransformOp
         requires { i < length self.now }
         ensures { slice_get self.now i ≡ Some result }
@@ -72,8 +74,8 @@ impl TransformList {
         self.ops[i]
     }
 
-    /// How many places from the front hold operations that match.
-    #[tactic(auto, using(crate::proofs::Matching::matching_places))]
+    /// How many operations from the front match those of the other list.
+    #[tactic(auto, using(crate::proofs::Matching::match_count))]
     pub fn match_len(&self, other: &TransformList) -> usize
         ensures value { result ≡ match_len self.now other.now }
         ensures within { result ≤ length self.now }
@@ -87,12 +89,12 @@ impl Blend for TransformList {
     const TAKES_MEMORY: bool = true;
 
     ghost use Rattle.std.specs.Prelude.{true};
-    ghost use Rattle.transform_ops.specs.Lists.{IsTransform, IsAlike, blend_lists};
+    ghost use Rattle.transform_ops.specs.Lists.{IsList, IsAlike, blend_lists};
     ghost use Rattle.transform_ops.specs.ListLemmas.{blend_lists-begin, blend_lists-end};
 
     ghost TAKES_MEMORY = { true };
 
-    ghost is_value = { IsTransform };
+    ghost is_value = { IsList };
 
     ghost blended = { blend_lists };
 
@@ -113,6 +115,10 @@ impl Blend for TransformList {
         Ok(TransformList { ops })
     }
 
+    fn vouch(&self) {
+        let _ = &self.ops;
+    }
+
     ghost begins_alike = { λ from to f t. blend_lists-begin from to f };
 
     ghost ends_alike = { λ from to f t. blend_lists-end from to t };
@@ -121,7 +127,7 @@ impl Blend for TransformList {
 /// Half of the way, from which on the second of two lists that can't be blended is the nearer one.
 const HALF: i64 = ONE as i64 / 2;
 
-// How many places from the front hold operations that match.
+// How many operations from the front match.
 fn count_matching(from: &[TransformOp], to: &[TransformOp]) -> usize
     ensures { result ≡ length (take_while (λ p. matches p.0 p.1) (zip from.now to.now)) }
 {
@@ -139,7 +145,7 @@ fn are_in_range(ops: &[TransformOp]) -> bool
     ops.iter().all(|op| op.is_in_range())
 }
 
-// Pushes the blends of the operations, place by place, up to the end of the shorter list.
+// Pushes the blends of the operations, one by one, up to the end of the shorter list.
 fn push_pairs(
     ops: &mut Vec<TransformOp>,
     from: &[TransformOp],
@@ -148,7 +154,7 @@ fn push_pairs(
 ) -> Result<(), AllocError>
     requires from_within { All IsOperation from.now }
     requires to_within { All IsOperation to.now }
-    requires progress_within { unsigned_abs progress ≤ 2 ^ 24 }
+    requires progress_within { unsigned_abs progress ≤ LARGEST_PROGRESS }
     ensures { OnOk result (ops.new.items
         ≡ ops.old.items ++ map (λ p. blend_operations p.0 p.1 progress) (zip from.now to.now)) }
 {
@@ -169,7 +175,7 @@ fn push_rest(
     requires none_match { match_len from.now to.now ≡ 0 }
     requires from_within { All IsOperation from.now }
     requires to_within { All IsOperation to.now }
-    requires progress_within { unsigned_abs progress ≤ 2 ^ 24 }
+    requires progress_within { unsigned_abs progress ≤ LARGEST_PROGRESS }
     ensures { OnOk result (ops.new.items ≡ ops.old.items ++ blend_lists from.now to.now progress) }
 {
     if from.is_empty() {
@@ -190,7 +196,7 @@ fn push_from_neutral(
     progress: i64,
 ) -> Result<(), AllocError>
     requires to_within { All IsOperation to.now }
-    requires progress_within { unsigned_abs progress ≤ 2 ^ 24 }
+    requires progress_within { unsigned_abs progress ≤ LARGEST_PROGRESS }
     ensures { OnOk result (ops.new.items
         ≡ ops.old.items ++ map (λ b. blend_operations (neutral_of b) b progress) to.now) }
 {
@@ -207,7 +213,7 @@ fn push_to_neutral(
     progress: i64,
 ) -> Result<(), AllocError>
     requires from_within { All IsOperation from.now }
-    requires progress_within { unsigned_abs progress ≤ 2 ^ 24 }
+    requires progress_within { unsigned_abs progress ≤ LARGEST_PROGRESS }
     ensures { OnOk result (ops.new.items
         ≡ ops.old.items ++ map (λ a. blend_operations a (neutral_of a) progress) from.now) }
 {

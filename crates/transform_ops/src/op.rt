@@ -1,14 +1,17 @@
-ghost use Rattle.std.specs.Prelude.{◌≡◌, ◌≤◌, ◌^◌, ◌↔◌, IsTrue, unsigned_abs};
+ghost use Rattle.std.specs.Prelude.{◌≡◌, ◌≤◌, ◌↔◌, IsTrue, unsigned_abs};
+ghost use Rattle.value_blend.specs.declared.TheConstants.{LARGEST_PROGRESS};
 ghost use Rattle.value_blend.specs.Blends.{IsNumber, is_number};
 
-use value_blend::blend_number;
+use crate::SAME_SIZE;
+use value_blend::{LARGEST_NUMBER, blend_number};
 
-/// One operation of a transform. Every number is at most 2^40 in size.
+/// One operation of a transform. Every number is at most
+/// [`LARGEST_NUMBER`] in size.
 #[derive(Clone, Copy, Debug, PartialEq, Eq, Hash)]
 pub enum TransformOp {
     /// Moves, in thousandths of a pixel.
     Translate { x: i64, y: i64, z: i64 },
-    /// Grows along each axis, in millionths: 1,000,000 leaves the size as it is.
+    /// Grows along each axis, in millionths: [`SAME_SIZE`] leaves the size as it is.
     Scale { x: i64, y: i64, z: i64 },
     /// Turns about the axis (x, y, z), which is kept as it was given, by an angle in thousandths of a degree.
     Rotate { x: i64, y: i64, z: i64, angle: i64 },
@@ -62,9 +65,9 @@ impl TransformOp {
         match self {
             TransformOp::Translate { .. } => TransformOp::Translate { x: 0, y: 0, z: 0 },
             TransformOp::Scale { .. } => TransformOp::Scale {
-                x: 1_000_000,
-                y: 1_000_000,
-                z: 1_000_000,
+                x: SAME_SIZE,
+                y: SAME_SIZE,
+                z: SAME_SIZE,
             },
             TransformOp::Rotate { x, y, z, .. } => TransformOp::Rotate { x, y, z, angle: 0 },
             TransformOp::Skew { .. } => TransformOp::Skew { x: 0, y: 0 },
@@ -76,7 +79,7 @@ impl TransformOp {
     pub fn blend(self, to: TransformOp, progress: i64) -> TransformOp
         requires from_within { IsOperation self }
         requires to_within { IsOperation to }
-        requires progress_within { unsigned_abs progress ≤ 2 ^ 24 }
+        requires progress_within { unsigned_abs progress ≤ LARGEST_PROGRESS }
         ensures value { result ≡ blend_operations self to progress }
         ensures within { IsOperation result }
     {
@@ -116,5 +119,5 @@ fn is_number(number: i64) -> bool
     ensures value { result ≡ is_number number }
     ensures within { IsTrue result ↔ IsNumber number }
 {
-    number.unsigned_abs() <= 1 << 40
+    number.unsigned_abs() <= LARGEST_NUMBER
 }

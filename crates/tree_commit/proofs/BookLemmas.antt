@@ -1,11 +1,10 @@
 -- Lemmas on what the code keeps of the edits so far.
-use Rattle.std.proofs.Common.{◌≡◌, ℕ, Bool, true, false, not, ◌||◌, List, [], ◌∷◌, ◌++◌, Option, Some, None, option_map, ◌==◌, find, Result, Ok, Err, IsOk, OnOk, rules, sym, ◌∙◌, cond, refl, ap, nat_eq, if◌then◌else◌}
-use Rattle.std.specs.List.{list_any}
+use Rattle.std.proofs.Common.{◌≡◌, ℕ, Bool, true, false, not, ◌||◌, List, [], ◌∷◌, ◌++◌, Option, Some, None, option_map, ◌==◌, find, Result, Ok, Err, IsOk, OnOk, OnErr, rules, sym, ◌∙◌, cond, refl, ap, nat_eq, if◌then◌else◌}
 use Rattle.std.specs.Map.{lookup, set_value}
 use Rattle.indexmap.specs.IndexMap.{insert_entry}
 use Rattle.indexmap.specs.IndexSet.{insert_key, remove_key}
 use Rattle.anim_names.specs.declared.property.Property.{Property}
-use Rattle.keyframe_model.specs.Models.{Spec, same_property, property_of}
+use Rattle.keyframe_model.specs.Models.{Spec, property_of}
 use Rattle.tree_commit.specs.declared.edits.group_shape.GroupShape.{GroupShape}
 use Rattle.tree_commit.specs.declared.edits.refusal.EditRefusal.TheVariants.{ModelIdUsed, TimelineUnknown, GroupClosed}
 use Rattle.tree_commit.specs.Edits.{Book, GroupParts, is_closed, AddModel, edit_refusal, model_refusal, is_in, is_mixed, parts_of, without, new_parts, with_property, with_member}
@@ -125,3 +124,8 @@ edit_refusal-parts book model id group element timeline start property parts =
 pub from_ok : {T E P : Type 0} (r : Result T E) → IsOk r → OnOk r P → P
 from_ok (Ok x) ok h = h
 from_ok (Err e) ok h = absurd (search rules)
+
+-- what is so anyway is so at Err
+pub on_err : {T E P : Type 0} (r : Result T E) → P → OnErr r P
+on_err (Ok x) h = tt
+on_err (Err e) h = h

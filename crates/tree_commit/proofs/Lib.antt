@@ -1,2 +1,3 @@
 pub mod BookLemmas
+pub mod SamplingLemmas
 pub mod TableLemmas

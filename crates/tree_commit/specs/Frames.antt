@@ -1,7 +1,8 @@
 -- Frames: what each element of the active commit shows at a tick.
-use Rattle.std.specs.Prelude.{ℕ, ◌==◌, nat_lt, ◌&&◌, if◌then◌else◌, List, map, filter, filter_map, fold, Option, Some, None, option_map}
+use Rattle.std.specs.Prelude.{ℕ, ◌==◌, ◌≤◌, nat_lt, Bool, ◌&&◌, if◌then◌else◌, unsigned_abs, List, map, filter, filter_map, fold, All, Option, Some, None, IfSome, option_map}
 use Rattle.anim_names.specs.declared.property.Property.{Property}
 use Rattle.anim_names.specs.declared.property.Property.TheVariants.{Opacity, Transform}
+use Rattle.micro_time.specs.declared.TheConstants.{LARGEST_LOCAL}
 use Rattle.transform_ops.specs.declared.op.TransformOp.{TransformOp}
 use Rattle.keyframe_model.specs.Models.{Spec, PropertyValue, OpacityValue, TransformValue, property_of, same_property, model_value}
 use Rattle.tree_commit.specs.declared.runs.mark.Mark.{Mark}
@@ -41,6 +42,11 @@ given_by tree tick model (Some shown) =
     option_map (λ value. record { value = value; order = shown.order })
     (model_value model (local_time tree tick model shown.start))
 
+-- Each model that is shown has a local time, at the tick, for which timings are defined.
+abbrev pub LocalTimesFit : TreeLists → (ℕ → Option Shown) → ℕ → Type 0
+LocalTimesFit tree shown tick =
+    All (λ model. IfSome (shown model.id) (λ s. unsigned_abs (local_time tree tick model s.start) ≤ LARGEST_LOCAL)) tree.models
+
 -- of two, that of the model that started later; where both have one index, the first
 abbrev pub later_of : Option Given → Given → Option Given
 later_of None new = Some new
@@ -49,10 +55,13 @@ later_of (Some best) new = if nat_lt best.order new.order then Some new else Som
 abbrev pub latest_of : List Given → Option Given
 latest_of givens = fold later_of None givens
 
+-- the model animates this property of this element
+abbrev pub animates : ℕ → Property → Spec → Bool
+animates element property model = element == model.element && same_property property (property_of model)
+
 -- the models that animate a property of an element, in the tree's order
 abbrev pub animators : TreeLists → ℕ → Property → List Spec
-animators tree element property =
-    filter (λ model. element == model.element && same_property property (property_of model)) tree.models
+animators tree element property = filter (animates element property) tree.models
 
 -- The animated value of a property of an element: of the models that give one, that of the model that started last.
 unfoldable pub animated_value : TreeLists → (ℕ → Option Shown) → ℕ → ℕ → Property → Option PropertyValue
@@ -81,10 +90,14 @@ row_of tree shown tick element = record {
   transform = transform_or element.look.transform (animated_value tree shown tick element.id Transform);
 }
 
--- The frame of a tick, over the marks up to the tick's own.
-unfoldable pub frame_at : Committed → List Mark → ℕ → DrawnFrame
-frame_at active marks tick = record {
+-- the frame of a tick, by what is shown of each model
+abbrev pub frame_by : Committed → (ℕ → Option Shown) → ℕ → DrawnFrame
+frame_by active shown tick = record {
   time = tick;
   commit = active.number;
-  rows = map (row_of active.tree (shown_by marks) tick) active.tree.elements;
+  rows = map (row_of active.tree shown tick) active.tree.elements;
 }
+
+-- The frame of a tick, over the marks up to the tick's own.
+unfoldable pub frame_at : Committed → List Mark → ℕ → DrawnFrame
+frame_at active marks tick = frame_by active (shown_by marks) tick

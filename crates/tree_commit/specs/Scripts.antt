@@ -1,11 +1,14 @@
 -- Scripts as plain data, and which of them are well formed.
-use Rattle.std.specs.Prelude.{◌≡◌, ℕ, ◌*◌, ◌≤◌, ◌^◌, nat_lt, nat_le, Bool, true, false, ◌&&◌, IsTrue, is_none, List, [], ◌∷◌, length, filter_map, fold, Option, Some, None}
+use Rattle.std.specs.Prelude.{◌≡◌, ℕ, ◌*◌, ◌≤◌, nat_lt, nat_le, Bool, true, ◌&&◌, IsTrue, is_none, List, [], ◌∷◌, length, filter_map, fold, Option, Some, None}
+use Rattle.std.specs.List.{AllByRecursion}
 use Rattle.anim_names.specs.declared.lane.Lane.{Lane}
 use Rattle.anim_names.specs.declared.lane.Lane.TheVariants.{Main, Compositor}
 use Rattle.anim_names.specs.declared.limit.TheConstants.{MOST_STEPS, MOST_COMMITS, MOST_FRAMES}
+use Rattle.anim_timeline.specs.declared.TheConstants.{LAST_TIME}
 use Rattle.anim_names.specs.Lanes.{letters_of}
 use Rattle.tree_commit.specs.declared.runs.compositor_step.CompositorStep.{CompositorStep}
 use Rattle.tree_commit.specs.declared.runs.compositor_step.CompositorStep.TheVariants.{Pull, Activate, Tick}
+use Rattle.tree_commit.specs.Ranges.{IsChange}
 use Rattle.tree_commit.specs.Edits.{Change, Book, new_book, edit_refusal, book_after, book_after_commit}
 
 -- ---- scripts
@@ -41,6 +44,12 @@ book_after_step book DrainStep = book
 abbrev pub book_of : List StepOfMain → Book
 book_of steps = fold book_after_step new_book steps
 
+-- what may be a step of main, wherever it stands
+abbrev pub IsStep : StepOfMain → Type 0
+IsStep (EditStep change) = IsChange change
+IsStep CommitStep = Unit {0}
+IsStep DrainStep = Unit {0}
+
 -- an edit that is not refused, a commit where there are fewer than may be, or a drain
 abbrev pub is_allowed : Book → StepOfMain → Bool
 is_allowed book (EditStep change) = is_none (edit_refusal book change)
@@ -75,13 +84,14 @@ are_at_most most (n ∷ ns) = nat_le n most && are_at_most most ns
 
 -- ---- well-formed scripts
 
--- A script may run: neither lane is too long, each edit is allowed when its turn comes, the ticks never fall and end in
--- time, there are not too many frames of elements, and the word has a letter for each step.
+-- A script may run: neither lane is too long, each edit is of values that may be and is allowed when its turn comes, the
+-- ticks never fall and end in time, there are not too many frames of elements, and the word has a letter for each step.
 pub record IsWellFormed (script : ScriptLists) : Type 0 where
   pub main_steps : length script.main ≤ MOST_STEPS
   pub compositor_steps : length script.compositor ≤ MOST_STEPS
+  pub ranges : AllByRecursion IsStep script.main
   pub edits : IsTrue (are_allowed new_book script.main)
   pub order : IsTrue (never_fall_from 0 (ticks_of script.compositor))
-  pub times : IsTrue (are_at_most (2 ^ 50) (ticks_of script.compositor))
+  pub times : IsTrue (are_at_most LAST_TIME (ticks_of script.compositor))
   pub frames : length (ticks_of script.compositor) * (book_of script.main).elements_added ≤ MOST_FRAMES
   pub word : IsWordOf (length script.main) (length script.compositor) script.word

@@ -21,7 +21,9 @@ pub use runs::frame::Frame;
 pub use runs::frame_row::FrameRow;
 pub use runs::main_step::MainStep;
 pub use runs::mark::Mark;
+pub use runs::sampling::sample_element;
 pub use runs::shown::Shown;
+pub use runs::start_table::StartTable;
 
 #[cfg(test)]
 mod tests;

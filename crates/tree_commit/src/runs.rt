@@ -3,6 +3,9 @@
 pub mod compositor_step;
 pub mod frame;
 pub mod frame_row;
+pub(crate) mod given;
 pub mod main_step;
 pub mod mark;
+pub mod sampling;
 pub mod shown;
+pub mod start_table;

@@ -2,9 +2,9 @@
 use Rattle.std.proofs.Common.{◌≡◌, ℕ, suc, ◌+◌, ◌*◌, ℤ, pos, negsuc, ◌-ℤ◌, ◌*ℤ◌, refl, ap, ◌∙◌, arith}
 use Rattle.std.proofs.Math.IntN.{+ℤ_idr, +ℤ_comm, -ℤ-+ℤ_cancel}
 use Rattle.std.proofs.lemmas.Bool.Decides.{nat_tests}
-use Rattle.value_blend.specs.declared.TheConstants.{ONE}
+use Rattle.value_blend.specs.declared.TheConstants.{ONE, LARGEST_NUMBER, FULL_OPACITY}
 use Rattle.value_blend.specs.Fixed.{floor_div, clamp_to, clamp_size}
-use Rattle.value_blend.specs.Blends.{part_way, IsNumber, IsOpacity, largest_number, full_opacity, blend_number, blend_opacity}
+use Rattle.value_blend.specs.Blends.{part_way, IsNumber, IsOpacity, blend_number, blend_opacity}
 
 floor_div-none : (d : ℤ) → floor_div (d *ℤ pos 0) ONE ≡ pos 0
 floor_div-none (pos a) = ap pos (omega arith)
@@ -24,14 +24,14 @@ part_way-begin from to = rw (floor_div-none (to -ℤ from)) (+ℤ_idr from)
 pub part_way-end : (from to : ℤ) → part_way from to (pos ONE) ≡ to
 part_way-end from to = rw (floor_div-all (to -ℤ from)) (+ℤ_comm from (to -ℤ from) ∙ -ℤ-+ℤ_cancel to from)
 
-pub clamp_size-within : (z : ℤ) → IsNumber z → clamp_size largest_number z ≡ z
+pub clamp_size-within : (z : ℤ) → IsNumber z → clamp_size LARGEST_NUMBER z ≡ z
 clamp_size-within (pos a) h = grind (arith, nat_tests)
 clamp_size-within (negsuc a) h = grind (arith, nat_tests)
 
-pub clamp_to-within : (n : ℕ) → IsOpacity n → clamp_to full_opacity (pos n) ≡ n
+pub clamp_to-within : (n : ℕ) → IsOpacity n → clamp_to FULL_OPACITY (pos n) ≡ n
 clamp_to-within n h = omega arith
 
-pub IsNumber-clamp_size : (z : ℤ) → IsNumber (clamp_size largest_number z)
+pub IsNumber-clamp_size : (z : ℤ) → IsNumber (clamp_size LARGEST_NUMBER z)
 IsNumber-clamp_size (pos a) = grind (arith, nat_tests)
 IsNumber-clamp_size (negsuc a) = grind (arith, nat_tests)
 

@@ -1,11 +1,11 @@
-ghost use Rattle.std.specs.Prelude.{◌≡◌, ◌≤◌, ◌^◌, ℤ, pos, unsigned_abs, Bool, false, IsOk, IfOk};
-ghost use Rattle.value_blend.specs.declared.TheConstants.{ONE};
+ghost use Rattle.std.specs.Prelude.{◌≡◌, ◌≤◌, ℤ, pos, unsigned_abs, Bool, false, IsOk, IfOk};
+ghost use Rattle.value_blend.specs.declared.TheConstants.{ONE, LARGEST_PROGRESS};
 
 use std::alloc::AllocError;
 
 /// A value that keys of a curve can have: between two of them there are others.
 ///
-/// `is_value` is what holds of every value, `blended` is what a blend of two gives, and two values that look the same
+/// `is_value` is what is true of every value, `blended` is what a blend of two gives, and two values that look the same
 /// are `alike`. A blend begins alike to the value that it comes from and ends alike to the one that it goes to.
 pub trait Blend {
     /// Whether a blend or a copy may ask for memory.
@@ -22,15 +22,18 @@ pub trait Blend {
     /// The value that lies so much of the way from one value to the other. The progress is in units of which
     /// [`crate::ONE`] is the whole way; below 0 and above it the blend goes on past its ends, as far as it may.
     fn blend(from: &Self, to: &Self, progress: i64) -> Result<Self, AllocError>
-        requires { unsigned_abs progress ≤ 2 ^ 24 }
+        requires { unsigned_abs progress ≤ LARGEST_PROGRESS }
         ensures value { IfOk result (λ value. value ≡ blended from.now to.now progress) }
         ensures without_memory { TAKES_MEMORY ≡ false → IsOk result };
 
     /// An equal value.
     fn copy(&self) -> Result<Self, AllocError>
         ensures value { IfOk result (λ value. value ≡ self.now) }
-        ensures without_memory { TAKES_MEMORY ≡ false → IsOk result }
-        ensures kept { is_value self.now };
+        ensures without_memory { TAKES_MEMORY ≡ false → IsOk result };
+
+    /// Does nothing. What is true of every value, its clause says of this one.
+    fn vouch(&self)
+        ensures { is_value self.now };
 
     ghost begins_alike: { (from to : Self) → is_value from → is_value to → alike (blended from to (pos 0)) from };
 

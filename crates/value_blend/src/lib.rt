@@ -18,5 +18,14 @@ pub use opacity::Opacity;
 /// The whole way from one value to the next, in the unit of a progress: 2^20.
 pub const ONE: u32 = 1 << 20;
 
+/// The largest size of a progress: sixteen times [`ONE`], 2^24. An easing leaves the way by less than that.
+pub const LARGEST_PROGRESS: u32 = 1 << 24;
+
+/// The largest size of a number of an operation: 2^40.
+pub const LARGEST_NUMBER: u64 = 1 << 40;
+
+/// The opacity of what hides all behind it, in millionths.
+pub const FULL_OPACITY: u32 = 1_000_000;
+
 #[cfg(test)]
 mod tests;

@@ -1,21 +1,21 @@
 //! Blends of the numbers that operations are made of.
 
-ghost use Rattle.std.specs.Prelude.{◌≡◌, ◌+◌, ◌*◌, ◌≤◌, ◌^◌, ◌-ℤ◌, ◌*ℤ◌, unsigned_abs};
-ghost use Rattle.value_blend.specs.declared.TheConstants.{ONE};
+ghost use Rattle.std.specs.Prelude.{◌≡◌, ◌+◌, ◌*◌, ◌≤◌, ◌-ℤ◌, ◌*ℤ◌, unsigned_abs};
+ghost use Rattle.value_blend.specs.declared.TheConstants.{LARGEST_PROGRESS};
 ghost use Rattle.value_blend.specs.Fixed.{floor_div};
 ghost use Rattle.value_blend.specs.Blends.{IsNumber, part_way, blend_number};
 
-use crate::ONE;
+use crate::{LARGEST_NUMBER, ONE};
 
-/// The largest size of a number of an operation: 2^40.
-const LARGEST: i64 = 1 << 40;
+// The largest number of an operation.
+const LARGEST: i64 = LARGEST_NUMBER as i64;
 
-/// The number that lies so much of the way from one number to the other, rounded down, and kept within 2^40 in size. The
-/// progress is in units of which [`ONE`] is the whole way.
+/// The number that lies so much of the way from one number to the other, rounded down, and brought within
+/// [`LARGEST_NUMBER`] in size. The progress is in units of which [`ONE`] is the whole way.
 pub fn blend_number(from: i64, to: i64, progress: i64) -> i64
     requires from_within { IsNumber from }
     requires to_within { IsNumber to }
-    requires progress_within { unsigned_abs progress ≤ 2 ^ 24 }
+    requires progress_within { unsigned_abs progress ≤ LARGEST_PROGRESS }
     ensures value { result ≡ blend_number from to progress }
     ensures within { IsNumber result }
 {
@@ -26,9 +26,9 @@ pub fn blend_number(from: i64, to: i64, progress: i64) -> i64
 pub(crate) fn part_way(from: i64, to: i64, progress: i64) -> i64
     requires from_within { IsNumber from }
     requires to_within { IsNumber to }
-    requires progress_within { unsigned_abs progress ≤ 2 ^ 24 }
+    requires progress_within { unsigned_abs progress ≤ LARGEST_PROGRESS }
     ensures value { result ≡ part_way from to progress }
-    ensures size { unsigned_abs result ≤ 2 ^ 40 + 2 ^ 45 + 1 }
+    ensures size { unsigned_abs result ≤ 33 * LARGEST_NUMBER + 1 }
 {
     from + covered(distance(from, to), progress)
 }
@@ -37,26 +37,26 @@ fn distance(from: i64, to: i64) -> i64
     requires from_within { IsNumber from }
     requires to_within { IsNumber to }
     ensures value { result ≡ to -ℤ from }
-    ensures size { unsigned_abs result ≤ 2 ^ 41 }
+    ensures size { unsigned_abs result ≤ 2 * LARGEST_NUMBER }
 {
     to - from
 }
 
 // So much of a distance, rounded down.
 fn covered(distance: i64, progress: i64) -> i64
-    requires distance_within { unsigned_abs distance ≤ 2 ^ 41 }
-    requires progress_within { unsigned_abs progress ≤ 2 ^ 24 }
+    requires distance_within { unsigned_abs distance ≤ 2 * LARGEST_NUMBER }
+    requires progress_within { unsigned_abs progress ≤ LARGEST_PROGRESS }
     ensures value { result ≡ floor_div (distance *ℤ progress) ONE }
-    ensures size { unsigned_abs result ≤ 2 ^ 45 + 1 }
+    ensures size { unsigned_abs result ≤ 32 * LARGEST_NUMBER + 1 }
 {
     (product(distance, progress).div_euclid(i128::from(ONE))) as i64
 }
 
 fn product(distance: i64, progress: i64) -> i128
-    requires distance_within { unsigned_abs distance ≤ 2 ^ 41 }
-    requires progress_within { unsigned_abs progress ≤ 2 ^ 24 }
+    requires distance_within { unsigned_abs distance ≤ 2 * LARGEST_NUMBER }
+    requires progress_within { unsigned_abs progress ≤ LARGEST_PROGRESS }
     ensures value { result ≡ distance *ℤ progress }
-    ensures size { unsigned_abs result ≤ 2 ^ 65 }
+    ensures size { unsigned_abs result ≤ 2 * LARGEST_NUMBER * LARGEST_PROGRESS }
 {
     i128::from(distance) * i128::from(progress)
 }

@@ -1,7 +1,8 @@
-ghost use Rattle.std.specs.Prelude.{◌≡◌, IfOk, IsOk, ◌≤◌, ◌^◌, unsigned_abs};
+ghost use Rattle.std.specs.Prelude.{◌≡◌, IfOk, IsOk, ◌≤◌, unsigned_abs};
+ghost use Rattle.value_blend.specs.declared.TheConstants.{LARGEST_PROGRESS};
 ghost use Rattle.value_blend.specs.Blends.{IsOpacity, opacity_of, blend_opacity};
 
-use crate::{Blend, number};
+use crate::{Blend, FULL_OPACITY, number};
 use std::alloc::AllocError;
 use std::marker::Model;
 
@@ -42,7 +43,7 @@ impl Opacity {
     pub fn get(&self) -> u32
         ensures value { result ≡ self.now }
 
-        // What holds of every opacity: `new` would take it.
+        // So is every opacity.
         ensures within { IsOpacity self.now }
     {
         self.millionths
@@ -70,8 +71,11 @@ impl Blend for Opacity {
     }
 
     fn copy(&self) -> Result<Self, AllocError> {
-        let _ = &self.millionths;
         Ok(*self)
+    }
+
+    fn vouch(&self) {
+        let _ = &self.millionths;
     }
 
     ghost begins_alike = { blend_opacity-begin };
@@ -83,12 +87,12 @@ impl Blend for Opacity {
 fn blend_opacity(from: u32, to: u32, progress: i64) -> u32
     requires from_within { IsOpacity from }
     requires to_within { IsOpacity to }
-    requires progress_within { unsigned_abs progress ≤ 2 ^ 24 }
+    requires progress_within { unsigned_abs progress ≤ LARGEST_PROGRESS }
     ensures value { result ≡ blend_opacity from to progress }
     ensures within { IsOpacity result }
 {
     number::part_way(i64::from(from), i64::from(to), progress).clamp(0, FULL) as u32
 }
 
-/// The opacity of what hides all behind it.
-const FULL: i64 = 1_000_000;
+// The opacity of what hides all behind it.
+const FULL: i64 = FULL_OPACITY as i64;

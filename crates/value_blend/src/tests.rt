@@ -53,6 +53,7 @@ fn a_blend_is_rounded_down(rt: HostRuntime) -> Result<(), Fail> {
     assert_eq!(rt; middle(&full, &none)?.get(), 500_000);
     assert_eq!(rt; blend_number(0, 999, HALF), 499);
     assert_eq!(rt; blend_number(0, -999, HALF), -500);
+    full.vouch();
     assert_eq!(rt; full.copy()?, full);
     Ok(())
 }

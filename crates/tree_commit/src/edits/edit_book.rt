@@ -366,7 +366,8 @@ fn add_further(
     ensures err { OnErr result (groups_from groups.new.entries ≡ groups_from groups.old.entries) }
 {
     let shape = groups.get_mut(&spec.group()).unwrap();
-    shape.add_property(spec.property())
+    shape.add_property(spec.property())?;
+    Ok(())
 }
 
 // A model whose group is not there makes it, last.

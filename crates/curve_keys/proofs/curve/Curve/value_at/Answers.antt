@@ -7,7 +7,7 @@ use Rattle.curve_keys.proofs.curve.Curve.value_at.Goals as goal
 pub returns-then-time-eq-BEGIN-clause-value : goal.returns-then-time-eq-BEGIN-clause-value
 unfolding curve_value
 returns-then-time-eq-BEGIN-clause-value g c =
-    let some : 0 < length c.self.inside.keys.items = omega (arith, IsCurve-some c.self.inside.keys.items c.self.invariant.0) in
+    let some : 0 < length c.self.inside.keys.items = omega (arith, IsCurve-some g.V.Blend.is_value _ c.self.invariant.0) in
     let bent = rw (← c.self.view_is) at c.bent_time-time.ensures.value in
     let begin = value_at-begin g.V.Blend.blended c.self.inside.keys.items c.bent_time-time.result c.index.result.now some c.index.ensures c.if-time-eq-BEGIN.true in
     rw (← c.self.view_is, ← bent)
@@ -15,12 +15,12 @@ returns-then-time-eq-BEGIN-clause-value g c =
 
 pub value_from-requires-clause-short : goal.value_from-requires-clause-short
 value_from-requires-clause-short g c =
-    rw c.deref.ensures.value (rest-short c.self.inside.keys.items c.self.invariant.0)
+    rw c.deref.ensures.value (rest-short g.V.Blend.is_value c.self.inside.keys.items (omega (arith, IsCurve-some g.V.Blend.is_value _ c.self.invariant.0)) c.self.invariant.0.each)
 
 pub returns-clause-value : goal.returns-clause-value
 unfolding curve_value
 returns-clause-value g c =
-    let some : 0 < length c.self.inside.keys.items = omega (arith, IsCurve-some c.self.inside.keys.items c.self.invariant.0) in
+    let some : 0 < length c.self.inside.keys.items = omega (arith, IsCurve-some g.V.Blend.is_value _ c.self.invariant.0) in
     let bent = rw (← c.self.view_is) at c.bent_time-time.ensures.value in
     let not_begin = c.if-time-eq-BEGIN.false in
     let later = value_at-later g.V.Blend.blended c.self.inside.keys.items c.bent_time-time.result c.index-2.result.now some c.index-2.ensures (omega arith) in

@@ -1,7 +1,7 @@
 use Rattle.std.proofs.Common.{◌≡◌, ◌∙◌}
 use Rattle.std.proofs.lemmas.Int.{to_z-of_z}
 use Rattle.transform_ops.proofs.Matching.{match_len-drop, whole}
-use Rattle.transform_ops.proofs.Ranges.{All-drop, IsTransform-blend_lists}
+use Rattle.transform_ops.proofs.Ranges.{All-drop, IsList-blend_lists}
 use Rattle.transform_ops.specs.Lists.{blend_lists}
 use Rattle.transform_ops.proofs.list.TransformListBlend.blend.Goals as goal
 
@@ -38,7 +38,7 @@ blended c =
 
 pub invariant_of-result : goal.invariant_of-result
 invariant_of-result c =
-    rw (blended c) (IsTransform-blend_lists c.args.from.now c.args.to.now c.args.progress c.len.ensures.taken c.len-2.ensures.taken)
+    rw (blended c) (IsList-blend_lists c.args.from.now c.args.to.now c.args.progress c.len.ensures.taken c.len-2.ensures.taken)
 
 pub returns-clause-value : goal.returns-clause-value
 returns-clause-value c = blended c

@@ -1,0 +1,9 @@
+use Rattle.std.proofs.Common.{◌≡◌, map, take}
+use Rattle.tree_commit.specs.Frames.{row_of}
+use Rattle.tree_commit.specs.Views.{drawn_row_of}
+use Rattle.active_tree.proofs.active.sample_all.Given as goal
+
+abbrev pub invariant-loop-index : goal.invariant-loop-index
+invariant-loop-index g l =
+    map drawn_row_of l.rows.items
+    ≡ take l.index (map (row_of l.commit.tree (g.S.StartTable.starts l.starts) l.time) l.commit.tree.elements)

@@ -1,0 +1,31 @@
+-- What the code keeps of the value that counts, while it looks for it.
+use Rattle.std.specs.Prelude.{ℕ, nat_lt, Bool, true, Option, Some, None, option_map, if◌then◌else◌}
+use Rattle.anim_names.specs.declared.property.Property.{Property}
+use Rattle.keyframe_model.specs.Models.{Spec}
+use Rattle.keyframe_model.specs.Views.{value_of}
+use Rattle.tree_commit.specs.declared.runs.given.Given.{Given}
+use Rattle.tree_commit.specs.declared.runs.shown.Shown.{Shown}
+use Rattle.tree_commit.specs.Trees.{TreeLists}
+use Rattle.tree_commit.specs.Frames as frames
+
+-- a value that a model gives, as plain data
+abbrev pub given_of : Given → frames.Given
+given_of given = record { value = value_of given.value; order = given.order }
+
+abbrev pub best_of : Option Given → Option frames.Given
+best_of best = option_map given_of best
+
+-- nothing counts yet, or a start of a lower order
+abbrev pub is_older : Option frames.Given → ℕ → Bool
+is_older None order = true
+is_older (Some best) order = nat_lt best.order order
+
+-- what counts beside one more value, where a model gives one
+abbrev pub beside : Option frames.Given → Option frames.Given → Option frames.Given
+beside best None = best
+beside best (Some new) = frames.later_of best new
+
+-- what counts once one more model was looked at
+abbrev pub best_with : TreeLists → (ℕ → Option Shown) → ℕ → ℕ → Property → Option frames.Given → Spec → Option frames.Given
+best_with tree shown tick element property best model =
+    if frames.animates element property model then beside best (frames.given_by tree tick model (shown model.id)) else best
