@@ -149,7 +149,7 @@ takes-left commits (Pull ∷ left) lane e = (pull-left (is_none lane.pending && 
 takes-left commits (Activate ∷ left) lane e = (activation-left lane.pending (record lane { left = left })).0
 takes-left commits (Tick time ∷ left) lane e = refl
 
-compositor-left : (lanes : Lanes) (word : List Lane) → (after lanes word).compositor.left ≡ drop (letters_of Compositor word) lanes.compositor.left
+pub compositor-left : (lanes : Lanes) (word : List Lane) → (after lanes word).compositor.left ≡ drop (letters_of Compositor word) lanes.compositor.left
 unfolding after compositor_step
 compositor-left lanes [] = refl
 compositor-left lanes (Compositor ∷ word) =

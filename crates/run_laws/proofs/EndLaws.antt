@@ -108,7 +108,7 @@ models_end_once script well word = ends_once _ (run_fits script well word).compo
 
 aborted_there : (lanes : Lanes) (model commit : ℕ) (mark : Mark) → mark ≡ Aborted model commit → Kind lanes mark → has_model lanes.compositor.active.tree model ≡ true
 aborted_there lanes model commit mark same (is_finish time other there running e) = absurd (false≢true (subst (λ m. aborts model m ≡ true) (sym same ∙ e) (eq-eqb model model refl)))
-aborted_there lanes model commit mark same (is_start time is) = absurd (false≢true (subst (λ m. aborts model m ≡ true) (sym same ∙ is.is) (eq-eqb model model refl)))
+aborted_there lanes model commit mark same (is_start time left next is) = absurd (false≢true (subst (λ m. aborts model m ≡ true) (sym same ∙ is.is) (eq-eqb model model refl)))
 aborted_there lanes model commit mark same (is_abort number other there e) =
     let its : model ≡ other.id = ap model_of (sym same ∙ e) in
     any-among (λ one. model == one.id) other lanes.compositor.active.tree.models there (eq-eqb model other.id its)

@@ -7,6 +7,8 @@ use Rattle.anim_names.specs.declared.lane.Lane.{Lane}
 use Rattle.keyframe_model.specs.Models.{Spec, property_of}
 use Rattle.tree_commit.specs.declared.runs.mark.Mark.{Mark}
 use Rattle.tree_commit.specs.declared.runs.mark.Mark.TheVariants.{Started, Finished, Aborted}
+use Rattle.tree_commit.specs.declared.runs.compositor_step.CompositorStep.{CompositorStep}
+use Rattle.tree_commit.specs.declared.runs.compositor_step.CompositorStep.TheVariants.{Tick}
 use Rattle.tree_commit.specs.Trees.{TreeLists, Committed, has_element, groups_of}
 use Rattle.tree_commit.specs.Marks.{model_of, starts, starts_in, is_running, is_ended, is_group_running, is_blocked_for, pending_allows, may_start, finish_marks, start_mark, start_marks, marks_of_tick, marks_of_activation}
 use Rattle.tree_commit.specs.Scripts.{ScriptLists, IsWellFormed}
@@ -25,12 +27,12 @@ use Rattle.run_laws.proofs.StepLemmas.{IsNewMark, IsStart, new-mark, new-split, 
 -- a new mark is a finish, a start or an abort
 pub data Kind (lanes : Lanes) (mark : Mark) : Type 0 where
   is_finish : (time : ℕ) (model : Spec) → IsAmong model lanes.compositor.active.tree.models → is_running lanes.compositor.marks model.id ≡ true → mark ≡ Finished model.id time → Kind lanes mark
-  is_start : (time : ℕ) → IsStart lanes.compositor.active.tree lanes.compositor.pending lanes.compositor.marks time mark → Kind lanes mark
+  is_start : (time : ℕ) (left : List CompositorStep) → lanes.compositor.left ≡ Tick time ∷ left → IsStart lanes.compositor.active.tree lanes.compositor.pending lanes.compositor.marks time mark → Kind lanes mark
   is_abort : (commit : Committed) (model : Spec) → IsAmong model lanes.compositor.active.tree.models → mark ≡ Aborted model.id commit.number → Kind lanes mark
 
 pub kind_of : (lanes : Lanes) (mark : Mark) → IsNewMark lanes mark → Kind lanes mark
 unfolding marks_of_tick
-kind_of lanes mark (inl (time, a)) = go (among-append_cases mark ended (start_marks active pending (marks ++ ended) time (groups_of active)) a)
+kind_of lanes mark (inl (time, left, next, a)) = go (among-append_cases mark ended (start_marks active pending (marks ++ ended) time (groups_of active)) a)
   where
     active : TreeLists
     active = lanes.compositor.active.tree
@@ -48,7 +50,7 @@ kind_of lanes mark (inl (time, a)) = go (among-append_cases mark ended (start_ma
     go (inl f) = let found = finish-mark active marks time mark f in is_finish time found.0 found.1 found.2 found.4
     go (inr s) =
         let found = started-mark active pending time (groups_of active) (marks ++ ended) mark s in
-        is_start time (record {
+        is_start time left next (record {
           so_far = found.so_far;
           goes_on = (ended ++ found.goes_on.0, found.goes_on.1 ∙ append_assoc marks ended found.goes_on.0);
           model = found.model;
@@ -65,7 +67,7 @@ kind_of lanes mark (inr (commit, e, a)) =
 
 new_start : (lanes : Lanes) (group : ℕ) (mark : Mark) → Kind lanes mark → starts_in group mark ≡ true → list_any (starts_in group) lanes.compositor.marks ≡ false
 new_start lanes group mark (is_finish time model there running e) s = absurd (false≢true (subst (λ m. starts_in group m ≡ true) e s))
-new_start lanes group mark (is_start time is) s =
+new_start lanes group mark (is_start time left next is) s =
     let own : group ≡ is.model.group = eqb-true group is.model.group (subst (λ m. starts_in group m ≡ true) is.is s) in
     subst (λ g. list_any (starts_in g) lanes.compositor.marks ≡ false) (sym own)
     (any-fewer (starts_in is.model.group) lanes.compositor.marks is.goes_on.0 (subst (λ l. list_any (starts_in is.model.group) l ≡ false) is.goes_on.1 is.ready.unstarted))
@@ -84,7 +86,7 @@ starts_together script well word letter = record {
 
 has_target : (lanes : Lanes) (mark : Mark) → Kind lanes mark → HasTarget lanes mark
 has_target lanes mark (is_finish time model there running e) = subst (λ m. HasTarget lanes m) (sym e) tt
-has_target lanes mark (is_start time is) =
+has_target lanes mark (is_start time left next is) =
     let may = is.ready.may_start is.model is.member in
     let both = and_parts (has_element lanes.compositor.active.tree is.model.element && pending_allows lanes.compositor.pending is.model.group is.model.element) _ may in
     let parts = and_parts (has_element lanes.compositor.active.tree is.model.element) _ both.0 in
@@ -103,7 +105,7 @@ one_blocker script well word = (run_fits script well word).compositor.marks.bloc
 new_finish : (lanes : Lanes) (id : ℕ) (mark : Mark) → Kind lanes mark → finishes id mark ≡ true → is_running lanes.compositor.marks id ≡ true
 new_finish lanes id mark (is_finish time model there running e) f =
     subst (λ i. is_running lanes.compositor.marks i ≡ true) (sym (eqb-true id model.id (subst (λ m. finishes id m ≡ true) e f))) running
-new_finish lanes id mark (is_start time is) f = absurd (false≢true (subst (λ m. finishes id m ≡ true) is.is f))
+new_finish lanes id mark (is_start time left next is) f = absurd (false≢true (subst (λ m. finishes id m ≡ true) is.is f))
 new_finish lanes id mark (is_abort commit model there e) f = absurd (false≢true (subst (λ m. finishes id m ≡ true) e f))
 
 pub finishes_together : (script : ScriptLists) → IsWellFormed script → (word : List Lane) (letter : Lane) → FinishesTogether (after (beginning script) word) letter

@@ -6,6 +6,7 @@ pub mod BookLaws
 pub mod BookLemmas
 pub mod CountLaws
 pub mod EndLaws
+pub mod EventLaws
 pub mod FinishFits
 pub mod FollowLaws
 pub mod GroupLaws
@@ -15,6 +16,7 @@ pub mod MainLemmas
 pub mod MainSteps
 pub mod MarkFacts
 pub mod MarksFit
+pub mod NumberLaws
 pub mod NumberLemmas
 pub mod RunFits
 pub mod RunningLemmas

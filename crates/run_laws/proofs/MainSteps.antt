@@ -174,10 +174,10 @@ main-commit born book marks left lane same h = record {
 -- ---- drains
 
 -- main's tree with fewer models
-record IsThinTree (thin tree : TreeLists) : Type 0 where
-  elements : thin.elements ≡ tree.elements
-  timelines : thin.timelines ≡ tree.timelines
-  models : IsThin thin.models tree.models
+pub record IsThinTree (thin tree : TreeLists) : Type 0 where
+  pub elements : thin.elements ≡ tree.elements
+  pub timelines : thin.timelines ≡ tree.timelines
+  pub models : IsThin thin.models tree.models
 
 thin-verdict : (tree : TreeLists) (event : AnimEvent) (found : Option Spec) → IsThinTree (tree_after_verdict tree event found) tree
 thin-verdict tree event None = record { elements = refl; timelines = refl; models = thin_same tree.models }
@@ -187,7 +187,7 @@ thin-verdict tree event (Some model) = go (is_retire (verdict_on model.policy ev
     go true = record { elements = refl; timelines = refl; models = thin_without (λ other. model.id == other.id) tree.models }
     go false = record { elements = refl; timelines = refl; models = thin_same tree.models }
 
-thin-heard : (tree : TreeLists) (events : List AnimEvent) → IsThinTree (fold tree_after_hearing tree events) tree
+pub thin-heard : (tree : TreeLists) (events : List AnimEvent) → IsThinTree (fold tree_after_hearing tree events) tree
 unfolding tree_after_hearing
 thin-heard tree [] = record { elements = refl; timelines = refl; models = thin_same tree.models }
 thin-heard tree (event ∷ events) =

@@ -27,14 +27,14 @@ use Rattle.run_laws.proofs.WordLemmas.{after-append, goes_on_same, goes_on_trans
 -- ---- letter by letter
 
 -- what is so of the empty word, and of each word with one more letter, is so of each word
-along_words : (P : List Lane → Type 0) → P [] → ((word : List Lane) (letter : Lane) → P word → P (word ++ letter ∷ [])) → (word : List Lane) → P word
+pub along_words : (P : List Lane → Type 0) → P [] → ((word : List Lane) (letter : Lane) → P word → P (word ++ letter ∷ [])) → (word : List Lane) → P word
 along_words P none more word = go [] word none
   where
     go : (front word : List Lane) → P front → P (front ++ word)
     go front [] h = subst P (sym (append-nil front)) h
     go front (letter ∷ word) h = subst P (append_assoc front (letter ∷ []) word) (go (front ++ letter ∷ []) word (more front letter h))
 
-at_next : (script : ScriptLists) (front : List Lane) (letter : Lane) → lanes_at script (front ++ letter ∷ []) ≡ after_letter (lanes_at script front) letter
+pub at_next : (script : ScriptLists) (front : List Lane) (letter : Lane) → lanes_at script (front ++ letter ∷ []) ≡ after_letter (lanes_at script front) letter
 unfolding after
 at_next script front letter = after-append (beginning script) front (letter ∷ [])
 
@@ -278,7 +278,7 @@ record WasActive (script : ScriptLists) (word : List Lane) (mark : Mark) : Type 
 
 kind_there : (lanes : Lanes) (mark : Mark) → Kind lanes mark → has_model lanes.compositor.active.tree (model_of mark) ≡ true
 kind_there lanes mark (is_finish time model there running e) = any-among (λ other. model_of mark == other.id) model lanes.compositor.active.tree.models there (eq-eqb (model_of mark) model.id (ap model_of e))
-kind_there lanes mark (is_start time is) = any-among (λ other. model_of mark == other.id) is.model lanes.compositor.active.tree.models is.there (eq-eqb (model_of mark) is.model.id (ap model_of is.is))
+kind_there lanes mark (is_start time left next is) = any-among (λ other. model_of mark == other.id) is.model lanes.compositor.active.tree.models is.there (eq-eqb (model_of mark) is.model.id (ap model_of is.is))
 kind_there lanes mark (is_abort commit model there e) = any-among (λ other. model_of mark == other.id) model lanes.compositor.active.tree.models there (eq-eqb (model_of mark) model.id (ap model_of e))
 
 was_active : (script : ScriptLists) (word : List Lane) → (mark : Mark) → IsAmong mark (lanes_at script word).compositor.marks → WasActive script word mark

@@ -98,7 +98,7 @@ started_group-of group (Started model other element property at start) h = ap So
 started_group-of group (Finished model at) h = absurd (false≢true h)
 started_group-of group (Aborted model commit) h = absurd (false≢true h)
 
-among-cons_option : {B : Type 0} (y : B) (o : Option B) (ys : List B) → IsAmong y ys → IsAmong y (cons_option o ys)
+pub among-cons_option : {B : Type 0} (y : B) (o : Option B) (ys : List B) → IsAmong y ys → IsAmong y (cons_option o ys)
 among-cons_option y None ys h = h
 among-cons_option y (Some z) ys h = inr h
 

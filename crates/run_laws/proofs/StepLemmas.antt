@@ -55,24 +55,24 @@ takes-marks commits (Tick time ∷ left) lane = refl
 -- a tick or an activation makes the mark
 abbrev pub IsNewMark : Lanes → Mark → Type 0
 IsNewMark lanes mark =
-    ((time : ℕ) × IsAmong mark (marks_of_tick lanes.compositor.active.tree lanes.compositor.pending lanes.compositor.marks time))
+    ((time : ℕ) × (left : List CompositorStep) × (lanes.compositor.left ≡ Tick time ∷ left) × IsAmong mark (marks_of_tick lanes.compositor.active.tree lanes.compositor.pending lanes.compositor.marks time))
     ⊎ ((commit : Committed) × (lanes.compositor.pending ≡ Some commit) × IsAmong mark (marks_of_activation lanes.compositor.active.tree commit lanes.compositor.marks))
 
-of_step : (lanes : Lanes) (left : List CompositorStep) (mark : Mark) → IsAmong mark (step_marks left lanes.compositor) → IsNewMark lanes mark
+of_step : (lanes : Lanes) (left : List CompositorStep) (mark : Mark) → lanes.compositor.left ≡ left → IsAmong mark (step_marks left lanes.compositor) → IsNewMark lanes mark
 unfolding step_marks activation_marks
-of_step lanes [] mark a = absurd a
-of_step lanes (Pull ∷ left) mark a = absurd a
-of_step lanes (Activate ∷ left) mark a = go lanes.compositor.pending refl a
+of_step lanes [] mark next a = absurd a
+of_step lanes (Pull ∷ left) mark next a = absurd a
+of_step lanes (Activate ∷ left) mark next a = go lanes.compositor.pending refl a
   where
     go : (pending : Option Committed) → lanes.compositor.pending ≡ pending → IsAmong mark (activation_marks pending lanes.compositor) → IsNewMark lanes mark
     go None e a = absurd a
     go (Some commit) e a = inr (commit, e, a)
-of_step lanes (Tick time ∷ left) mark a = inl (time, a)
+of_step lanes (Tick time ∷ left) mark next a = inl (time, left, next, a)
 
 letter-marks : (lanes : Lanes) (letter : Lane) → (more : List Mark) × ((after_letter lanes letter).compositor.marks ≡ lanes.compositor.marks ++ more) × ((mark : Mark) → IsAmong mark more → IsNewMark lanes mark)
 unfolding compositor_step
 letter-marks lanes Main = ([], sym (append-nil lanes.compositor.marks), λ mark a. absurd a)
-letter-marks lanes Compositor = (step_marks lanes.compositor.left lanes.compositor, takes-marks lanes.main.commits lanes.compositor.left lanes.compositor, λ mark a. of_step lanes lanes.compositor.left mark a)
+letter-marks lanes Compositor = (step_marks lanes.compositor.left lanes.compositor, takes-marks lanes.main.commits lanes.compositor.left lanes.compositor, λ mark a. of_step lanes lanes.compositor.left mark refl a)
 
 new-is : (lanes : Lanes) (letter : Lane) → new_marks lanes letter ≡ (letter-marks lanes letter).0
 new-is lanes letter =

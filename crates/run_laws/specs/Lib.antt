@@ -6,6 +6,7 @@ pub mod Growth
 pub mod Hearing
 pub mod Lists
 pub mod MainTree
+pub mod Numbers
 pub mod Shown
 pub mod Steps
 pub mod Words

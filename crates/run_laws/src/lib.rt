@@ -12,5 +12,6 @@ pub mod groups;
 pub mod growth;
 pub mod hearing;
 pub mod main_tree;
+pub mod numbers;
 pub mod shown;
 pub mod words;
