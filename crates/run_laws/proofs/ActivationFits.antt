@@ -1,22 +1,21 @@
 -- What an activation aborts.
-use Rattle.std.proofs.Common.{◌≡◌, ℕ, ◌+◌, ◌<◌, ◌≤◌, ◌==◌, Bool, true, false, not, ◌&&◌, ◌||◌, cond, List, [], ◌∷◌, ◌++◌, map, filter, refl, sym, ap, ◌∙◌, subst, ◌⊎◌, inl, inr, arith}
+use Rattle.std.proofs.Common.{◌≡◌, ℕ, ◌<◌, ◌==◌, true, false, not, ◌&&◌, List, [], ◌++◌, map, refl, sym, ◌∙◌, subst, ◌⊎◌, inl, inr, arith}
 use Rattle.std.specs.List.{list_any}
-use Rattle.std.proofs.lemmas.Bool.{false≢true, and_parts, and_from, or_cases, or_left, or_right, eqb-true, eq-eqb, not-true, not_from_false, cases_lt, true_from_ne_false}
+use Rattle.std.proofs.lemmas.Bool.{false≢true, and_parts, and_from, or_cases, or_left, or_right, eqb-true, eq-eqb, not-true, not_from_false, true_from_ne_false}
 use Rattle.std.proofs.lemmas.List.Folds.{list_any-append}
-use Rattle.anim_names.specs.declared.property.Property.{Property}
 use Rattle.keyframe_model.specs.Models.{Spec}
 use Rattle.tree_commit.specs.declared.runs.mark.Mark.{Mark}
-use Rattle.tree_commit.specs.declared.runs.mark.Mark.TheVariants.{Started, Finished, Aborted}
+use Rattle.tree_commit.specs.declared.runs.mark.Mark.TheVariants.{Aborted}
 use Rattle.tree_commit.specs.Trees.{TreeLists, Committed, has_model, has_element}
-use Rattle.tree_commit.specs.Marks.{model_of, starts, ends, starts_in, is_started, is_ended, is_running, is_group_running, blocks, is_lost, lost_models, marks_of_activation}
+use Rattle.tree_commit.specs.Marks.{model_of, starts, ends, starts_in, is_started, is_ended, is_running, is_group_running, is_lost, lost_models, marks_of_activation}
 use Rattle.run_laws.specs.Lists.{IsAmong}
-use Rattle.run_laws.specs.Ends.{finishes, is_finished, is_group_finished}
+use Rattle.run_laws.specs.Ends.{finishes, is_finished}
 use Rattle.run_laws.proofs.Among.{among-append_cases, among-map, among-map_cases, among-filter, among-filter_from, any-among, any-cases, any-none}
 use Rattle.run_laws.proofs.Births.{Birth, birth, AreOfOneScript}
 use Rattle.run_laws.proofs.Lines.{FitsBirths, Precedes}
-use Rattle.run_laws.proofs.MarkFacts.{any-more, any-fewer, any-same, apart-filter, AreInOrder, order-append, order-apart, starts-about, ends-about, blocks-before, finished-mark, finished-from, NoStartIn, start-before, still-idle}
-use Rattle.run_laws.proofs.MarksFit.{IsAbout, IsOfBirth, MarksFit, about-model, about-group, of_same_model, model_there}
-use Rattle.run_laws.proofs.FinishFits.{IsEnd, AreEnds, none_start, none_start_in, ends_alike, ran_before, running-parts, running-whole}
+use Rattle.run_laws.proofs.MarkFacts.{any-more, any-same, apart-filter, AreInOrder, order-append, order-apart, ends-about, blocks-before, finished-mark, finished-from, start-before, still-idle}
+use Rattle.run_laws.proofs.MarksFit.{IsAbout, IsOfBirth, MarksFit, about-group, of_same_model, model_there}
+use Rattle.run_laws.proofs.FinishFits.{IsEnd, AreEnds, none_start_in, ends_alike, ran_before, running-parts}
 
 -- an abort is that of a model that is lost
 pub abort-mark : (active : TreeLists) (new : Committed) (marks : List Mark) (mark : Mark) → IsAmong mark (marks_of_activation active new marks) → (model : Spec) × IsAmong model active.models × (is_lost new.tree marks model ≡ true) × (mark ≡ Aborted model.id new.number)

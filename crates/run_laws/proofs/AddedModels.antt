@@ -1,17 +1,16 @@
 -- The models that a script adds, by their ids.
-use Rattle.std.proofs.Common.{◌≡◌, ℕ, ◌+◌, ◌<◌, ◌≤◌, ◌==◌, Bool, true, false, ◌||◌, cond, List, [], ◌∷◌, ◌++◌, fold, length, refl, sym, ap, ◌∙◌, subst, ◌⊎◌, inl, inr, arith}
+use Rattle.std.proofs.Common.{◌≡◌, ℕ, ◌+◌, ◌<◌, ◌≤◌, ◌==◌, Bool, true, false, ◌||◌, cond, List, [], ◌∷◌, ◌++◌, fold, length, refl, sym, ◌∙◌, subst, ◌⊎◌, inl, inr, arith}
 use Rattle.std.specs.Prelude.{is_none}
-use Rattle.std.specs.List.{list_any}
-use Rattle.std.proofs.lemmas.Bool.{false≢true, and_parts, or_left, or_right, leb-false, eqb-true, eq-eqb, ne_eqb}
+use Rattle.std.proofs.lemmas.Bool.{false≢true, and_parts, or_left, or_right, leb-false, eqb-true, eq-eqb}
 use Rattle.std.proofs.lemmas.List.{length-append}
 use Rattle.std.proofs.lemmas.List.Folds.{list_any-append}
 use Rattle.anim_names.specs.declared.limit.TheConstants.{MOST_MODELS}
 use Rattle.keyframe_model.specs.Models.{Spec}
-use Rattle.tree_commit.specs.Edits.{Change, AddElement, RemoveElement, SetOpacity, SetTransform, AddTimeline, AddModel, RemoveModel, Book, new_book, is_in, without, edit_refusal, book_after, book_after_commit}
+use Rattle.tree_commit.specs.Edits.{Change, AddElement, RemoveElement, SetOpacity, SetTransform, AddTimeline, AddModel, RemoveModel, Book, is_in, without, edit_refusal, book_after, book_after_commit}
 use Rattle.tree_commit.specs.Scripts.{StepOfMain, EditStep, CommitStep, DrainStep, is_allowed, are_allowed, book_after_step}
 use Rattle.run_laws.specs.Lists.{IsAmong}
 use Rattle.run_laws.specs.Follows.{AreDistinct}
-use Rattle.run_laws.proofs.Births.{Birth, birth, births, births_of, births_of-cases, accepted, commits-edit}
+use Rattle.run_laws.proofs.Births.{Birth, birth, births, births_of-cases, accepted, commits-edit}
 
 -- ---- ids stay
 
@@ -102,5 +101,5 @@ distinct_within [] list distinct within = omega arith
 distinct_within (id ∷ ids) list distinct within =
     let fewer = length-without_one id list (within id (inl refl)) in
     let rest = distinct_within ids (without (λ other. id == other) list) distinct.1
-        (λ other a. in-without id other list (λ e. distinct.0 (subst (λ x. IsAmong x ids) e a)) (within other (inr a))) in
+    (λ other a. in-without id other list (λ e. distinct.0 (subst (λ x. IsAmong x ids) e a)) (within other (inr a))) in
     omega (arith, fewer, rest)

@@ -1,9 +1,9 @@
 -- The models that a script ever adds, each with how many commits came before it.
-use Rattle.std.proofs.Common.{◌≡◌, ℕ, ◌+◌, ◌≤◌, ◌==◌, nat_lt, nat_le, Bool, true, false, not, ◌&&◌, ◌||◌, cond, Option, Some, None, List, [], ◌∷◌, ◌++◌, length, refl, sym, ap, ◌∙◌, subst, ◌⊎◌, inl, inr, arith}
+use Rattle.std.proofs.Common.{◌≡◌, ℕ, ◌+◌, ◌≤◌, ◌==◌, nat_le, Bool, true, false, not, ◌&&◌, ◌||◌, cond, Option, Some, None, List, [], ◌∷◌, length, refl, sym, ap, ◌∙◌, subst, ◌⊎◌, inl, inr, arith}
 use Rattle.std.specs.Prelude.{is_none, nat_eq, find, unwrap_or}
 use Rattle.std.specs.List.{list_any}
 use Rattle.std.specs.Option.{option_eq}
-use Rattle.std.proofs.lemmas.Bool.{false≢true, and_parts, or_parts, or_left, or_right, eqb-true, eqb-false, eq-eqb, ltb-false, leb-true, not-true, not-false}
+use Rattle.std.proofs.lemmas.Bool.{false≢true, and_parts, or_parts, eqb-true, eqb-false, eq-eqb, ltb-false, not-false}
 use Rattle.std.proofs.lemmas.List.Folds.{list_any-append}
 use Rattle.std.proofs.lemmas.Option.{none-some}
 use Rattle.anim_names.specs.declared.limit.TheConstants.{MOST_MODELS}
@@ -12,7 +12,7 @@ use Rattle.anim_names.specs.declared.property.Property.TheVariants.{Opacity, Tra
 use Rattle.keyframe_model.specs.Models.{Spec, property_of, same_property}
 use Rattle.tree_commit.specs.declared.edits.refusal.EditRefusal.{EditRefusal}
 use Rattle.tree_commit.specs.Edits.{Change, AddElement, RemoveElement, SetOpacity, SetTransform, AddTimeline, AddModel, RemoveModel, GroupParts, Book, new_book, is_in, parts_of, is_closed, is_mixed, model_refusal, edit_refusal, new_parts, with_property, with_member, book_after, book_after_commit}
-use Rattle.tree_commit.specs.Scripts.{StepOfMain, EditStep, CommitStep, DrainStep, are_allowed, is_allowed, book_after_step}
+use Rattle.tree_commit.specs.Scripts.{StepOfMain, EditStep, CommitStep, DrainStep, are_allowed, is_allowed}
 use Rattle.run_laws.specs.Lists.{IsAmong}
 
 -- ---- births

@@ -1,14 +1,13 @@
 -- The book of main's steps so far, and what a lane has learnt.
-use Rattle.std.proofs.Common.{◌≡◌, ℕ, zero, suc, Bool, true, false, List, [], ◌∷◌, ◌++◌, length, take, drop, map, fold, refl, sym, ap, ◌∙◌, subst, ◌⊎◌, inl, inr, append_assoc}
+use Rattle.std.proofs.Common.{◌≡◌, ℕ, zero, suc, List, [], ◌∷◌, ◌++◌, take, drop, map, refl, sym, ap, ◌∙◌, subst, append_assoc}
 use Rattle.std.specs.Prelude.{IsTrue, IfSome, Option, Some, None}
 use Rattle.std.proofs.lemmas.List.{append_cancel_right, map-append}
 use Rattle.std.proofs.lemmas.List.Sums.{fold-append}
 use Rattle.anim_names.specs.declared.lane.Lane.{Lane}
 use Rattle.anim_names.specs.declared.lane.Lane.TheVariants.{Main, Compositor}
 use Rattle.anim_names.specs.Lanes.{letters_of}
-use Rattle.anim_names.specs.Lists.{BeginsWith}
 use Rattle.tree_commit.specs.declared.runs.mark.Mark.{Mark}
-use Rattle.tree_commit.specs.Trees.{TreeLists, Committed, empty_commit}
+use Rattle.tree_commit.specs.Trees.{Committed, empty_commit}
 use Rattle.tree_commit.specs.Tables.{has_timeline}
 use Rattle.tree_commit.specs.Marks.{event_of}
 use Rattle.tree_commit.specs.Edits.{Book, new_book, is_in}
@@ -19,14 +18,13 @@ use Rattle.run_laws.specs.Growth.{CommitsOnlyGrow, LearntStays}
 use Rattle.run_laws.specs.MainTree.{GoTogether}
 use Rattle.run_laws.proofs.Among.{among-append_left}
 use Rattle.run_laws.proofs.Births.{Birth, births, AreOfOneScript}
-use Rattle.run_laws.proofs.BookLemmas.{BookFits}
 use Rattle.run_laws.proofs.MainLemmas.{MainFits}
-use Rattle.run_laws.proofs.MainSteps.{book_after_next, main_fits_after}
+use Rattle.run_laws.proofs.MainSteps.{main_fits_after}
 use Rattle.run_laws.proofs.RunFits.{RunFits, IsPendingOf, run_fits, one_script, begins_main, letter_commits}
 use Rattle.run_laws.proofs.CountLaws.{main-left}
 use Rattle.run_laws.proofs.TreeLaws.{all-from_among}
 use Rattle.run_laws.proofs.HearingLemmas.{heard_first}
-use Rattle.run_laws.proofs.WordLemmas.{after-append, goes_on_same, goes_on_trans, word_grows}
+use Rattle.run_laws.proofs.WordLemmas.{goes_on_same, goes_on_trans, word_grows}
 
 -- ---- commits only grow
 
@@ -82,8 +80,8 @@ book_goes_with_tree script well word =
     let h = has_made script (beginning script) word (one_script script well) first in
     let left = main-left (beginning script) word in
     let same : h.made ≡ take (letters_of Main word) script.main =
-        append_cancel_right h.made (take (letters_of Main word) script.main) (drop (letters_of Main word) script.main)
-        (ap (λ l. h.made ++ l) (sym left) ∙ sym h.steps ∙ sym (take-drop (letters_of Main word) script.main)) in
+    append_cancel_right h.made (take (letters_of Main word) script.main) (drop (letters_of Main word) script.main)
+    (ap (λ l. h.made ++ l) (sym left) ∙ sym h.steps ∙ sym (take-drop (letters_of Main word) script.main)) in
     subst (λ steps. GoTogether (book_of steps) (after (beginning script) word).main.tree) same (book_goes (book_of h.made) (after (beginning script) word).main (births 0 script.main) h.fits)
 
 -- ---- what a lane has learnt

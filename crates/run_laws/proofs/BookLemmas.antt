@@ -1,20 +1,18 @@
 -- The book of a script goes together with main's tree.
-use Rattle.std.proofs.Common.{◌≡◌, ℕ, ◌+◌, ◌≤◌, ◌<◌, ◌==◌, nat_le, Bool, true, false, not, ◌||◌, cond, Option, Some, None, List, [], ◌∷◌, ◌++◌, length, map, refl, sym, ap, ◌∙◌, subst, ◌⊎◌, inl, inr, arith}
+use Rattle.std.proofs.Common.{◌≡◌, ℕ, ◌+◌, ◌≤◌, ◌<◌, ◌==◌, nat_le, Bool, true, false, ◌||◌, cond, List, [], ◌∷◌, ◌++◌, length, map, refl, sym, ap, ◌∙◌, ◌⊎◌, inl, inr, arith}
 use Rattle.std.specs.Prelude.{is_none}
 use Rattle.std.specs.List.{list_any}
-use Rattle.std.proofs.lemmas.Bool.{false≢true, leb-false, or_left, or_right, or_cases, eq-eqb}
+use Rattle.std.proofs.lemmas.Bool.{leb-false, or_left, or_right, eq-eqb}
 use Rattle.std.proofs.lemmas.List.{map-append, length-append, length-map}
 use Rattle.std.proofs.lemmas.List.Folds.{list_any-append}
 use Rattle.anim_names.specs.declared.limit.TheConstants.{MOST_ELEMENTS, MOST_MODELS, MOST_TIMELINES}
-use Rattle.anim_names.specs.declared.limit.LimitName.TheVariants.{Elements, Timelines}
 use Rattle.keyframe_model.specs.Models.{Spec}
-use Rattle.tree_commit.specs.declared.edits.refusal.EditRefusal.TheVariants.{ElementThere, TimelineThere, Limit}
-use Rattle.tree_commit.specs.Trees.{TreeLists, Look, Element, Clock, Committed}
+use Rattle.tree_commit.specs.Trees.{TreeLists, Look, Element}
 use Rattle.tree_commit.specs.Edits.{Change, AddElement, RemoveElement, SetOpacity, SetTransform, AddTimeline, AddModel, RemoveModel, Book, is_in, without, with_look, edit_refusal, book_after, tree_after}
 use Rattle.run_laws.specs.Lists.{IsAmong}
 use Rattle.run_laws.specs.MainTree.{IsWithinLimits}
-use Rattle.run_laws.proofs.Among.{among-append_cases, any-cases}
-use Rattle.run_laws.proofs.Births.{IsAccepted, accepted, not_refused}
+use Rattle.run_laws.proofs.Among.{among-append_cases}
+use Rattle.run_laws.proofs.Births.{accepted, not_refused}
 use Rattle.run_laws.proofs.Lines.{IsThin, thin_without}
 
 -- The book names the elements and the timelines of the tree in their order, has the id of each model, and nothing is

@@ -1,5 +1,5 @@
 -- How many steps each lane has made after a word, and what they have added.
-use Rattle.std.proofs.Common.{◌≡◌, ℕ, ◌+◌, zero, suc, Bool, true, false, cond, Option, Some, None, List, [], ◌∷◌, ◌++◌, length, take, drop, map, refl, sym, ap, ◌∙◌, subst, append_assoc, arith}
+use Rattle.std.proofs.Common.{◌≡◌, ℕ, ◌+◌, zero, suc, Bool, true, false, cond, Option, Some, None, List, [], ◌∷◌, ◌++◌, length, take, drop, map, refl, sym, ap, ◌∙◌, append_assoc, arith}
 use Rattle.std.specs.Prelude.{count_by, is_none, nat_lt, ◌&&◌}
 use Rattle.std.proofs.lemmas.List.{append-nil, length-append, map-append}
 use Rattle.std.proofs.lemmas.List.Sums.{sum_by-cons, sum_by-take-drop}
@@ -127,7 +127,7 @@ commits_are_counted script word =
     let both = word-commits (beginning script) word in
     let left = ap (count_by is_commit) (main-left (beginning script) word) in
     let parts : count_by is_commit (take (letters_of Main word) script.main) + count_by is_commit (drop (letters_of Main word) script.main) ≡ count_by is_commit script.main =
-        sum_by-take-drop (λ x. cond (is_commit x) 1 0) script.main (letters_of Main word) in
+    sum_by-take-drop (λ x. cond (is_commit x) 1 0) script.main (letters_of Main word) in
     record {
       numbers = word-numbers (beginning script) word tt;
       count = omega (arith, both, left, parts);

@@ -1,26 +1,23 @@
 -- Laws of a model's marks.
-use Rattle.std.proofs.Common.{◌≡◌, ℕ, ◌+◌, ◌≤◌, ◌==◌, Bool, true, false, not, ◌&&◌, cond, List, [], ◌∷◌, ◌++◌, refl, sym, ap, ◌∙◌, subst, ◌⊎◌, inl, inr, append_assoc, arith}
-use Rattle.std.specs.Prelude.{IsTrue, count_by}
+use Rattle.std.proofs.Common.{◌≡◌, ℕ, ◌+◌, ◌≤◌, ◌==◌, Bool, true, false, not, cond, List, [], ◌∷◌, ◌++◌, refl, sym, ap, ◌∙◌, subst, append_assoc, arith}
+use Rattle.std.specs.Prelude.{count_by}
 use Rattle.std.specs.List.{list_any}
 use Rattle.std.proofs.lemmas.Bool.{false≢true, and_parts, not-true, eqb-true, eq-eqb, or_right, or_left}
 use Rattle.std.proofs.lemmas.List.{append-nil}
 use Rattle.std.proofs.lemmas.List.Folds.{list_any-append}
 use Rattle.std.proofs.lemmas.List.Sums.{sum_by-cons}
 use Rattle.anim_names.specs.declared.lane.Lane.{Lane}
-use Rattle.keyframe_model.specs.Models.{Spec}
 use Rattle.tree_commit.specs.declared.runs.mark.Mark.{Mark}
 use Rattle.tree_commit.specs.declared.runs.mark.Mark.TheVariants.{Started, Finished, Aborted}
-use Rattle.tree_commit.specs.Trees.{Committed, has_model}
-use Rattle.tree_commit.specs.Marks.{model_of, starts, ends, aborts, is_started, is_ended, is_running, start_mark}
+use Rattle.tree_commit.specs.Trees.{has_model}
+use Rattle.tree_commit.specs.Marks.{model_of, starts, ends, aborts, is_started, is_ended}
 use Rattle.tree_commit.specs.Scripts.{ScriptLists, IsWellFormed}
 use Rattle.tree_commit.specs.Runs.{Lanes, beginning, after}
-use Rattle.run_laws.specs.Lists.{IsAmong}
-use Rattle.run_laws.specs.Steps.{new_marks}
 use Rattle.run_laws.specs.Ends.{may_follow, EndsOnce, AbortedWasActive}
 use Rattle.run_laws.specs.ActiveCommit.{EndedHadStarted, GroupsAreWhole}
 use Rattle.run_laws.proofs.Among.{any-among}
-use Rattle.run_laws.proofs.MarkFacts.{AreInOrder, any-more, starts-about, ends-about}
-use Rattle.run_laws.proofs.RunFits.{RunFits, run_fits}
+use Rattle.run_laws.proofs.MarkFacts.{AreInOrder, any-more}
+use Rattle.run_laws.proofs.RunFits.{run_fits}
 use Rattle.run_laws.proofs.GroupLaws.{Kind, is_finish, is_start, is_abort, kind_of}
 use Rattle.run_laws.proofs.StepLemmas.{new-mark}
 

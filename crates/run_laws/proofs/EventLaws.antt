@@ -1,12 +1,10 @@
 -- There are at most two events a model.
-use Rattle.std.proofs.Common.{◌≡◌, ℕ, ◌+◌, ◌*◌, ◌<◌, ◌≤◌, ◌^◌, ◌==◌, Bool, true, false, not, ◌||◌, cond, List, [], ◌∷◌, ◌++◌, length, filter, refl, sym, ap, ◌∙◌, subst, ◌⊎◌, inl, inr, arith}
+use Rattle.std.proofs.Common.{◌≡◌, ℕ, ◌+◌, ◌*◌, ◌≤◌, ◌==◌, Bool, true, false, not, ◌||◌, cond, List, [], ◌∷◌, length, filter, refl, sym, ◌∙◌, inl, arith}
 use Rattle.std.specs.Prelude.{count_by}
-use Rattle.std.specs.List.{list_any}
-use Rattle.std.proofs.lemmas.Bool.{false≢true, eqb-true, eq-eqb, not-true, ne_eqb}
+use Rattle.std.proofs.lemmas.Bool.{false≢true, eqb-true, eq-eqb, not-true}
 use Rattle.std.proofs.lemmas.List.Filters.{length-filter_both}
 use Rattle.std.proofs.lemmas.List.Sums.{length-filter, sum_by-cons}
 use Rattle.anim_names.specs.declared.lane.Lane.{Lane}
-use Rattle.anim_names.specs.declared.limit.TheConstants.{MOST_MODELS}
 use Rattle.tree_commit.specs.declared.runs.mark.Mark.{Mark}
 use Rattle.tree_commit.specs.Edits.{is_in}
 use Rattle.tree_commit.specs.Marks.{model_of}
@@ -60,7 +58,7 @@ events_are_few script well word =
     let lanes : Lanes = after (beginning script) word in
     let known = known_were_added script well word in
     let most : length lanes.compositor.marks ≤ 2 * length (book_of script.main).models =
-        few (book_of script.main).models lanes.compositor.marks
-        (λ mark a. known.added (model_of mark) (inl (any-among (λ other. model_of mark == model_of other) mark lanes.compositor.marks a (eq-eqb (model_of mark) (model_of mark) refl))))
-        (models_end_once script well word).two_marks in
+    few (book_of script.main).models lanes.compositor.marks
+    (λ mark a. known.added (model_of mark) (inl (any-among (λ other. model_of mark == model_of other) mark lanes.compositor.marks a (eq-eqb (model_of mark) (model_of mark) refl))))
+    (models_end_once script well word).two_marks in
     record { two_each = most; fit = omega (arith, most, known.limit) }

@@ -1,22 +1,21 @@
 -- Marks that end models, and what a tick finishes.
-use Rattle.std.proofs.Common.{◌≡◌, ℕ, ◌+◌, ◌<◌, ◌==◌, Bool, true, false, not, ◌&&◌, ◌||◌, cond, List, [], ◌∷◌, ◌++◌, map, filter, refl, sym, ap, ◌∙◌, subst, ◌⊎◌, inl, inr}
+use Rattle.std.proofs.Common.{◌≡◌, ℕ, true, false, not, ◌&&◌, List, [], ◌++◌, map, refl, sym, ap, ◌∙◌, subst, ◌⊎◌, inl, inr}
 use Rattle.std.specs.List.{list_any}
 use Rattle.std.proofs.lemmas.Bool.{false≢true, and_parts, and_from, or_cases, or_right, eqb-true, eq-eqb, not-true, not_from_false, false_from_ne_true}
 use Rattle.std.proofs.lemmas.List.Folds.{list_any-append}
-use Rattle.anim_names.specs.declared.property.Property.{Property}
 use Rattle.keyframe_model.specs.Models.{Spec}
 use Rattle.tree_commit.specs.declared.runs.mark.Mark.{Mark}
 use Rattle.tree_commit.specs.declared.runs.mark.Mark.TheVariants.{Started, Finished, Aborted}
-use Rattle.tree_commit.specs.Trees.{TreeLists, Committed, has_model}
-use Rattle.tree_commit.specs.Marks.{model_of, starts, ends, starts_in, is_started, is_ended, is_running, is_group_running, blocks, are_over, finishing_models, finish_marks}
+use Rattle.tree_commit.specs.Trees.{TreeLists, Committed}
+use Rattle.tree_commit.specs.Marks.{model_of, starts, ends, starts_in, is_started, is_ended, is_running, is_group_running, are_over, finishing_models, finish_marks}
 use Rattle.run_laws.specs.Lists.{IsAmong}
-use Rattle.run_laws.specs.Ends.{finishes, is_finished, is_group_finished}
+use Rattle.run_laws.specs.Ends.{finishes, is_finished}
 use Rattle.run_laws.specs.Groups.{AreAlike, StartTogether}
-use Rattle.run_laws.proofs.Among.{among-append_left, among-append_right, among-append_cases, among-map, among-map_cases, among-filter, among-filter_from, any-among, any-cases, any-none}
-use Rattle.run_laws.proofs.Births.{Birth, birth, AreOfOneScript}
+use Rattle.run_laws.proofs.Among.{among-append_cases, among-map, among-map_cases, among-filter, among-filter_from, any-among, any-cases, any-none}
+use Rattle.run_laws.proofs.Births.{Birth, AreOfOneScript}
 use Rattle.run_laws.proofs.Lines.{FitsBirths}
-use Rattle.run_laws.proofs.MarkFacts.{any-more, any-fewer, any-same, apart-filter, AreInOrder, order-append, order-apart, running-mark, running-from, blocks-before, finished-mark, finished-from, NoStartIn, start-before, still-idle}
-use Rattle.run_laws.proofs.MarksFit.{IsAbout, IsOfBirth, MarksFit, about-model, about-group, about-starts, model_there, of_active}
+use Rattle.run_laws.proofs.MarkFacts.{any-more, any-fewer, any-same, apart-filter, AreInOrder, order-append, order-apart, running-mark, blocks-before, finished-mark, finished-from, NoStartIn, start-before, still-idle}
+use Rattle.run_laws.proofs.MarksFit.{IsAbout, IsOfBirth, MarksFit, about-group, about-starts, model_there, of_active}
 
 -- ---- marks that end models
 

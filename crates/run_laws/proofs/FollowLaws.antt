@@ -1,25 +1,23 @@
 -- The pending commit follows the active one.
-use Rattle.std.proofs.Common.{◌≡◌, ℕ, ◌+◌, ◌<◌, ◌≤◌, ◌==◌, Bool, true, false, ◌||◌, cond, Option, Some, None, List, [], ◌∷◌, ◌++◌, length, refl, sym, ap, ◌∙◌, subst, ◌⊎◌, inl, inr, arith}
+use Rattle.std.proofs.Common.{◌≡◌, ℕ, ◌==◌, Bool, true, false, ◌||◌, cond, Option, Some, None, List, [], ◌∷◌, ◌++◌, refl, sym, ap, ◌∙◌, subst, inl, inr, arith}
 use Rattle.std.specs.Prelude.{IsTrue, IfSome, IsSomeAnd, find, option_map, unwrap_or}
 use Rattle.std.specs.List.{list_any}
 use Rattle.std.proofs.lemmas.Bool.{false≢true, eqb-true}
 use Rattle.anim_names.specs.declared.lane.Lane.{Lane}
 use Rattle.anim_names.specs.Lists.{BeginsWith}
-use Rattle.keyframe_model.specs.Models.{Spec}
 use Rattle.tree_commit.specs.declared.runs.mark.Mark.{Mark}
-use Rattle.tree_commit.specs.Trees.{TreeLists, Clock, Committed, has_model, has_group, origin_of}
+use Rattle.tree_commit.specs.Trees.{TreeLists, Committed, has_model, origin_of}
 use Rattle.tree_commit.specs.Tables.{has_timeline}
 use Rattle.tree_commit.specs.Marks.{model_of, starts_in}
 use Rattle.tree_commit.specs.Edits.{new_book, is_in}
 use Rattle.tree_commit.specs.Scripts.{ScriptLists, IsWellFormed, book_of}
-use Rattle.tree_commit.specs.Runs.{Lanes, MainLane, CompositorLane, beginning, after}
-use Rattle.run_laws.specs.Lists.{IsAmong}
-use Rattle.run_laws.specs.Follows.{Follows, PendingFollows, has_mark, IsKnown, KnownWereAdded}
+use Rattle.tree_commit.specs.Runs.{Lanes, beginning, after}
+use Rattle.run_laws.specs.Follows.{Follows, PendingFollows, IsKnown, KnownWereAdded}
 use Rattle.run_laws.proofs.Among.{any-cases}
 use Rattle.run_laws.proofs.Births.{Birth, birth, births, AreOfOneScript}
 use Rattle.run_laws.proofs.Lines.{FitsBirths, Precedes}
 use Rattle.run_laws.proofs.MarkFacts.{any-more}
-use Rattle.run_laws.proofs.MarksFit.{IsOfBirth, MarksFit, about-model, model_there}
+use Rattle.run_laws.proofs.MarksFit.{MarksFit, about-model, model_there}
 use Rattle.run_laws.proofs.ActivationFits.{marked-stays, group-stays}
 use Rattle.run_laws.proofs.RunFits.{RunFits, IsPendingOf, run_fits, one_script, active_fits, active_precedes}
 use Rattle.run_laws.proofs.AddedModels.{born_added, room_steps, distinct_within}
@@ -33,10 +31,11 @@ find-more {A} p (x ∷ xs) ys h = go (p x) refl (find-more p xs ys) h
     go false e rest h = rest h
 
 timelines_follow : (active new : TreeLists) → BeginsWith new.timelines active.timelines → (id : ℕ) → has_timeline active id ≡ true → (has_timeline new id ≡ true) × (origin_of new id ≡ origin_of active id)
-timelines_follow active new (others, e) id h =
-    (subst (λ clocks. list_any (λ clock. id == clock.id) clocks ≡ true) (sym e) (any-more (λ clock. id == clock.id) active.timelines others h),
-    ap (λ clocks. unwrap_or (option_map (λ clock. clock.origin) (find (λ clock. id == clock.id) clocks)) 0) e
-    ∙ ap (λ found. unwrap_or (option_map (λ clock. clock.origin) found) 0) (find-more (λ clock. id == clock.id) active.timelines others h))
+timelines_follow active new (others, e) id h = (
+  subst (λ clocks. list_any (λ clock. id == clock.id) clocks ≡ true) (sym e) (any-more (λ clock. id == clock.id) active.timelines others h),
+  ap (λ clocks. unwrap_or (option_map (λ clock. clock.origin) (find (λ clock. id == clock.id) clocks)) 0) e
+      ∙ ap (λ found. unwrap_or (option_map (λ clock. clock.origin) found) 0) (find-more (λ clock. id == clock.id) active.timelines others h),
+)
 
 follows : (born : List Birth) (active new : Committed) (marks : List Mark) → AreOfOneScript born → FitsBirths born active → FitsBirths born new → Precedes born active new → MarksFit born active marks → Follows active.tree new.tree marks
 follows born active new marks script old fits goes h = record {

@@ -1,28 +1,27 @@
 -- Laws of groups.
-use Rattle.std.proofs.Common.{◌≡◌, ℕ, Bool, true, false, ◌&&◌, not, Option, Some, None, List, [], ◌∷◌, ◌++◌, refl, sym, ap, ◌∙◌, subst, ◌⊎◌, inl, inr, append_assoc}
-use Rattle.std.specs.Prelude.{IsTrue, IsFalse}
+use Rattle.std.proofs.Common.{◌≡◌, ℕ, true, false, ◌&&◌, Option, List, ◌∷◌, ◌++◌, sym, ◌∙◌, subst, ◌⊎◌, inl, inr, append_assoc}
 use Rattle.std.specs.List.{list_any}
-use Rattle.std.proofs.lemmas.Bool.{false≢true, and_parts, not-true, eqb-true, false_from_ne_true}
+use Rattle.std.proofs.lemmas.Bool.{false≢true, and_parts, eqb-true, false_from_ne_true}
 use Rattle.anim_names.specs.declared.lane.Lane.{Lane}
-use Rattle.keyframe_model.specs.Models.{Spec, property_of}
+use Rattle.keyframe_model.specs.Models.{Spec}
 use Rattle.tree_commit.specs.declared.runs.mark.Mark.{Mark}
-use Rattle.tree_commit.specs.declared.runs.mark.Mark.TheVariants.{Started, Finished, Aborted}
+use Rattle.tree_commit.specs.declared.runs.mark.Mark.TheVariants.{Finished, Aborted}
 use Rattle.tree_commit.specs.declared.runs.compositor_step.CompositorStep.{CompositorStep}
 use Rattle.tree_commit.specs.declared.runs.compositor_step.CompositorStep.TheVariants.{Tick}
 use Rattle.tree_commit.specs.Trees.{TreeLists, Committed, has_element, groups_of}
-use Rattle.tree_commit.specs.Marks.{model_of, starts, starts_in, is_running, is_ended, is_group_running, is_blocked_for, pending_allows, may_start, finish_marks, start_mark, start_marks, marks_of_tick, marks_of_activation}
+use Rattle.tree_commit.specs.Marks.{model_of, starts, starts_in, is_running, is_ended, pending_allows, finish_marks, start_marks, marks_of_tick}
 use Rattle.tree_commit.specs.Scripts.{ScriptLists, IsWellFormed}
-use Rattle.tree_commit.specs.Runs.{Lanes, beginning, after_letter, after}
+use Rattle.tree_commit.specs.Runs.{Lanes, beginning, after}
 use Rattle.run_laws.specs.Lists.{IsAmong}
 use Rattle.run_laws.specs.Steps.{new_marks}
-use Rattle.run_laws.specs.Ends.{finishes, is_finished, is_group_finished}
-use Rattle.run_laws.specs.Groups.{StartsTogether, HasTarget, TargetsPresent, OneBlocker, FinishesTogether, is_of_group}
-use Rattle.run_laws.proofs.Among.{among-append_cases, any-among, any-cases}
+use Rattle.run_laws.specs.Ends.{finishes, is_finished}
+use Rattle.run_laws.specs.Groups.{StartsTogether, HasTarget, TargetsPresent, OneBlocker, FinishesTogether}
+use Rattle.run_laws.proofs.Among.{among-append_cases, any-cases}
 use Rattle.run_laws.proofs.MarkFacts.{any-fewer, running-from, starts-about}
 use Rattle.run_laws.proofs.FinishFits.{finish-mark, running-parts}
 use Rattle.run_laws.proofs.ActivationFits.{abort-mark}
-use Rattle.run_laws.proofs.RunFits.{RunFits, run_fits, run_after}
-use Rattle.run_laws.proofs.StepLemmas.{IsNewMark, IsStart, new-mark, new-split, started-mark}
+use Rattle.run_laws.proofs.RunFits.{run_fits, run_after}
+use Rattle.run_laws.proofs.StepLemmas.{IsNewMark, IsStart, new-mark, started-mark}
 
 -- a new mark is a finish, a start or an abort
 pub data Kind (lanes : Lanes) (mark : Mark) : Type 0 where

@@ -1,10 +1,8 @@
 -- Commits of one line: each fits the births of the script, and each later one goes on from those before it.
-use Rattle.std.proofs.Common.{◌≡◌, ℕ, ◌+◌, ◌≤◌, ◌<◌, ◌==◌, Bool, true, false, cond, List, [], ◌∷◌, ◌++◌, length, refl, sym, ap, ◌∙◌, subst, ◌⊎◌, inl, inr, arith}
-use Rattle.std.proofs.lemmas.Bool.{false≢true}
-use Rattle.std.proofs.lemmas.List.{append-nil}
+use Rattle.std.proofs.Common.{◌≡◌, ℕ, ◌≤◌, ◌<◌, Bool, true, false, cond, List, [], ◌∷◌, ◌++◌, length, refl, sym, ap, subst, ◌⊎◌, inl, inr, arith}
 use Rattle.anim_names.specs.Lists.{BeginsWith}
 use Rattle.keyframe_model.specs.Models.{Spec}
-use Rattle.tree_commit.specs.Trees.{TreeLists, Clock, Committed, empty_commit}
+use Rattle.tree_commit.specs.Trees.{Clock, Committed, empty_commit}
 use Rattle.tree_commit.specs.Tables.{has_timeline}
 use Rattle.tree_commit.specs.Edits.{without}
 use Rattle.run_laws.specs.Lists.{IsAmong}

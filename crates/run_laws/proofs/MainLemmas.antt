@@ -1,27 +1,21 @@
 -- Main's lane along a run: its commits, and the tree as the commit that a commit step would make of it, are of one line.
-use Rattle.std.proofs.Common.{◌≡◌, ℕ, ◌+◌, ◌≤◌, ◌<◌, ◌==◌, nat_lt, Bool, true, false, ◌||◌, cond, Option, Some, None, List, [], ◌∷◌, ◌++◌, length, map, fold, refl, sym, ap, ◌∙◌, subst, ◌⊎◌, inl, inr, arith}
-use Rattle.std.specs.Prelude.{is_none, drop}
-use Rattle.std.specs.List.{list_any}
-use Rattle.std.proofs.lemmas.Bool.{false≢true, and_parts, or_left, ltb-true, eq-eqb}
-use Rattle.std.proofs.lemmas.List.{length-append}
+use Rattle.std.proofs.Common.{◌≡◌, ℕ, ◌+◌, ◌≤◌, ◌<◌, ◌==◌, true, List, [], ◌∷◌, ◌++◌, length, refl, sym, ap, ◌∙◌, subst, ◌⊎◌, inl, inr, arith}
+use Rattle.std.specs.Prelude.{is_none}
+use Rattle.std.proofs.lemmas.Bool.{false≢true, or_left, eq-eqb}
 use Rattle.std.proofs.lemmas.List.Folds.{list_any-append}
 use Rattle.anim_names.specs.declared.limit.TheConstants.{MOST_COMMITS}
-use Rattle.anim_names.specs.declared.event.AnimEvent.{AnimEvent}
-use Rattle.anim_names.specs.Lists.{BeginsWith}
-use Rattle.anim_delegate.specs.Table.{verdict_on, is_retire}
 use Rattle.keyframe_model.specs.Models.{Spec}
-use Rattle.tree_commit.specs.declared.runs.mark.Mark.{Mark}
-use Rattle.tree_commit.specs.Trees.{TreeLists, Clock, Committed, next_commit, model_with}
+use Rattle.tree_commit.specs.Trees.{TreeLists, Clock, Committed, next_commit}
 use Rattle.tree_commit.specs.Tables.{has_timeline}
-use Rattle.tree_commit.specs.Edits.{Change, AddElement, RemoveElement, SetOpacity, SetTransform, AddTimeline, AddModel, RemoveModel, Book, is_in, edit_refusal, book_after, book_after_commit, tree_after}
-use Rattle.tree_commit.specs.Scripts.{StepOfMain, EditStep, CommitStep, DrainStep, is_allowed, are_allowed, book_after_step}
-use Rattle.tree_commit.specs.Runs.{MainLane, tree_after_hearing, tree_after_verdict, model_of_event, after_commit, after_drain, unheard_events, main_makes, main_takes}
+use Rattle.tree_commit.specs.Edits.{AddTimeline, AddModel, Book, is_in, edit_refusal, tree_after}
+use Rattle.tree_commit.specs.Scripts.{are_allowed}
+use Rattle.tree_commit.specs.Runs.{MainLane}
 use Rattle.run_laws.specs.Lists.{IsAmong}
 use Rattle.run_laws.specs.MainTree.{IsWithinLimits}
 use Rattle.run_laws.proofs.Among.{among-append_cases, any-among}
-use Rattle.run_laws.proofs.Births.{Birth, birth, births, births_of, AreOfOneScript, IsAccepted, accepted, not_refused, commits-edit}
-use Rattle.run_laws.proofs.Lines.{AreApart, FitsBirths, Precedes, AreOrdered, IsThin, thin_same, thin_thinner, thin_without, fits_thin, precedes_thin, ordered-last}
-use Rattle.run_laws.proofs.BookLemmas.{BookFits, any-map, book_edit, book_thin, within_limits}
+use Rattle.run_laws.proofs.Births.{Birth, birth, births, AreOfOneScript, accepted, not_refused}
+use Rattle.run_laws.proofs.Lines.{AreApart, FitsBirths, Precedes, AreOrdered}
+use Rattle.run_laws.proofs.BookLemmas.{BookFits, any-map}
 use Rattle.run_laws.proofs.WordLemmas.{goes_on_trans}
 
 -- ---- what stays along a run

@@ -1,5 +1,5 @@
 -- Each step of main keeps its lane's commits in one line.
-use Rattle.std.proofs.Common.{◌≡◌, ℕ, ◌+◌, ◌≤◌, ◌<◌, ◌==◌, nat_lt, Bool, true, false, cond, Option, Some, None, List, [], ◌∷◌, ◌++◌, length, map, fold, refl, sym, ap, ◌∙◌, subst, ◌⊎◌, inl, inr, arith}
+use Rattle.std.proofs.Common.{◌≡◌, ℕ, ◌+◌, ◌≤◌, ◌<◌, ◌==◌, nat_lt, Bool, true, false, cond, Option, Some, None, List, [], ◌∷◌, ◌++◌, length, fold, refl, sym, ◌∙◌, subst, ◌⊎◌, inl, inr, arith}
 use Rattle.std.specs.Prelude.{is_none}
 use Rattle.std.proofs.lemmas.Bool.{and_parts, ltb-true}
 use Rattle.std.proofs.lemmas.List.{length-append}
@@ -10,14 +10,14 @@ use Rattle.keyframe_model.specs.Models.{Spec}
 use Rattle.tree_commit.specs.declared.runs.mark.Mark.{Mark}
 use Rattle.tree_commit.specs.Trees.{TreeLists, Committed, next_commit, model_with}
 use Rattle.tree_commit.specs.Edits.{Change, AddElement, RemoveElement, SetOpacity, SetTransform, AddTimeline, AddModel, RemoveModel, Book, edit_refusal, book_after, book_after_commit, tree_after, without_model}
-use Rattle.tree_commit.specs.Scripts.{StepOfMain, EditStep, CommitStep, DrainStep, is_allowed, are_allowed, book_after_step}
-use Rattle.tree_commit.specs.Runs.{MainLane, tree_after_hearing, tree_after_verdict, model_of_event, after_commit, after_drain, unheard_events, main_makes, main_takes}
+use Rattle.tree_commit.specs.Scripts.{StepOfMain, EditStep, CommitStep, DrainStep, are_allowed, book_after_step}
+use Rattle.tree_commit.specs.Runs.{MainLane, tree_after_hearing, tree_after_verdict, model_of_event, after_drain, unheard_events, main_makes, main_takes}
 use Rattle.run_laws.specs.Lists.{IsAmong}
 use Rattle.run_laws.specs.MainTree.{IsWithinLimits}
 use Rattle.run_laws.proofs.Among.{among-append_cases}
 use Rattle.run_laws.proofs.Births.{Birth, birth, births, births_of, AreOfOneScript, commits-edit}
 use Rattle.run_laws.proofs.Lines.{FitsBirths, Precedes, IsThin, thin_same, thin_thinner, thin_without, fits_thin, precedes_thin, ordered-last}
-use Rattle.run_laws.proofs.BookLemmas.{BookFits, book_edit, book_thin, within_limits}
+use Rattle.run_laws.proofs.BookLemmas.{book_edit, book_thin, within_limits}
 use Rattle.run_laws.proofs.MainLemmas.{MainFits, fits-add_model, precedes-add_model, fits-add_timeline, precedes-add_timeline}
 use Rattle.run_laws.proofs.WordLemmas.{goes_on_same}
 

@@ -1,17 +1,17 @@
 -- What more marks change of what is read off them.
-use Rattle.std.proofs.Common.{◌≡◌, ℕ, ◌==◌, Bool, true, false, not, ◌&&◌, ◌||◌, cond, List, [], ◌∷◌, ◌++◌, map, filter, refl, sym, ap, ◌∙◌, subst, ◌⊎◌, inl, inr, append_assoc}
+use Rattle.std.proofs.Common.{◌≡◌, ℕ, Bool, true, false, not, ◌&&◌, ◌||◌, cond, List, [], ◌∷◌, ◌++◌, map, filter, refl, sym, ap, ◌∙◌, subst, ◌⊎◌, inl, inr, append_assoc}
 use Rattle.std.specs.List.{list_any}
-use Rattle.std.proofs.lemmas.Bool.{false≢true, and_parts, and_from, or_parts, or_from, or_cases, or_left, eqb-true, ne_eqb, not-true, not_from_false}
+use Rattle.std.proofs.lemmas.Bool.{false≢true, and_parts, and_from, or_parts, or_left, eqb-true, not-true, not_from_false}
 use Rattle.std.proofs.lemmas.List.{append-nil}
 use Rattle.std.proofs.lemmas.List.Folds.{list_any-append}
 use Rattle.anim_names.specs.declared.property.Property.{Property}
 use Rattle.keyframe_model.specs.Models.{Spec}
 use Rattle.tree_commit.specs.declared.runs.mark.Mark.{Mark}
 use Rattle.tree_commit.specs.declared.runs.mark.Mark.TheVariants.{Started, Finished, Aborted}
-use Rattle.tree_commit.specs.Marks.{model_of, starts, ends, starts_in, starts_on, is_started, is_ended, is_running, is_group_running, blocks}
+use Rattle.tree_commit.specs.Marks.{model_of, starts, ends, starts_in, starts_on, is_ended, is_group_running, blocks}
 use Rattle.run_laws.specs.Lists.{IsAmong}
-use Rattle.run_laws.specs.Ends.{may_follow, finishes, is_finished, is_group_finished}
-use Rattle.run_laws.proofs.Among.{among-append_left, among-append_cases, among-filter, any-among, any-cases, any-none}
+use Rattle.run_laws.specs.Ends.{may_follow, is_finished, is_group_finished}
+use Rattle.run_laws.proofs.Among.{among-append_cases, among-filter, any-among, any-cases, any-none}
 use Rattle.run_laws.proofs.Lines.{AreApart}
 
 -- ---- tests over more marks
@@ -86,9 +86,11 @@ order-append before (x ∷ xs) ys h i = (h.0, order-append (before ++ x ∷ []) 
 -- marks of different models, each of which may follow what was before, are in order
 pub order-apart : (before : List Mark) (f : Spec → Mark) → ((model : Spec) → model_of (f model) ≡ model.id) → (models : List Spec) → AreApart models → ((model : Spec) → IsAmong model models → may_follow before (f model) ≡ true) → AreInOrder before (map f models)
 order-apart before f about [] apart allowed = tt
-order-apart before f about (model ∷ models) apart allowed =
-    (allowed model (inl refl), order-apart (before ++ f model ∷ []) f about models apart.1
-    (λ other a. follow-other before (f model) (f other) (λ same. apart.0 other a (sym (about model) ∙ sym same ∙ about other)) (allowed other (inr a))))
+order-apart before f about (model ∷ models) apart allowed = (
+  allowed model (inl refl),
+  order-apart (before ++ f model ∷ []) f about models apart.1
+      (λ other a. follow-other before (f model) (f other) (λ same. apart.0 other a (sym (about model) ∙ sym same ∙ about other)) (allowed other (inr a))),
+)
 
 -- ---- what a group does
 

@@ -1,22 +1,20 @@
 -- What stays true of the marks along a run, and marks that end models.
-use Rattle.std.proofs.Common.{◌≡◌, ℕ, ◌+◌, ◌<◌, ◌==◌, Bool, true, false, not, ◌&&◌, ◌||◌, cond, List, [], ◌∷◌, ◌++◌, map, filter, refl, sym, ap, ◌∙◌, subst, ◌⊎◌, inl, inr}
+use Rattle.std.proofs.Common.{◌≡◌, ℕ, ◌<◌, ◌==◌, true, false, List, [], refl, sym, ap, ◌∙◌}
 use Rattle.std.specs.List.{list_any}
-use Rattle.std.proofs.lemmas.Bool.{false≢true, and_parts, and_from, or_cases, eqb-true, eq-eqb, not-true, not_from_false}
-use Rattle.std.proofs.lemmas.List.Folds.{list_any-append}
+use Rattle.std.proofs.lemmas.Bool.{false≢true, eqb-true, eq-eqb}
 use Rattle.anim_names.specs.declared.property.Property.{Property}
-use Rattle.anim_names.specs.declared.property.Property.TheVariants.{Opacity, Transform}
-use Rattle.keyframe_model.specs.Models.{Spec, property_of, same_property}
+use Rattle.keyframe_model.specs.Models.{Spec, property_of}
 use Rattle.tree_commit.specs.declared.runs.mark.Mark.{Mark}
 use Rattle.tree_commit.specs.declared.runs.mark.Mark.TheVariants.{Started, Finished, Aborted}
-use Rattle.tree_commit.specs.Trees.{TreeLists, Committed, has_model, empty_commit}
-use Rattle.tree_commit.specs.Marks.{model_of, starts, ends, starts_in, starts_on, is_started, is_ended, is_running, is_group_running, blocks, are_over, finishing_models, finish_marks}
+use Rattle.tree_commit.specs.Trees.{TreeLists, Committed, has_model}
+use Rattle.tree_commit.specs.Marks.{model_of, starts, starts_in, is_started, is_ended, is_running, is_group_running, blocks}
 use Rattle.run_laws.specs.Lists.{IsAmong}
-use Rattle.run_laws.specs.Ends.{may_follow, finishes, is_finished, is_group_finished}
-use Rattle.run_laws.specs.Groups.{AreAlike, StartsLike, StartTogether}
-use Rattle.run_laws.proofs.Among.{among-append_left, among-append_cases, among-map, among-map_cases, among-filter, among-filter_from, any-among, any-cases, any-none}
+use Rattle.run_laws.specs.Ends.{is_group_finished}
+use Rattle.run_laws.specs.Groups.{StartTogether}
+use Rattle.run_laws.proofs.Among.{any-cases}
 use Rattle.run_laws.proofs.Births.{Birth, birth, AreOfOneScript}
 use Rattle.run_laws.proofs.Lines.{FitsBirths}
-use Rattle.run_laws.proofs.MarkFacts.{any-more, any-fewer, any-same, apart-filter, AreInOrder, order-append, order-apart, starts-about, ends-about, running-mark, running-from, blocks-before, finished-mark, finished-from, NoStartIn, start-before, still-idle}
+use Rattle.run_laws.proofs.MarkFacts.{AreInOrder}
 
 -- ---- whose a mark is
 

@@ -1,11 +1,9 @@
 -- The numbers of a run stay small.
-use Rattle.std.proofs.Common.{◌≡◌, ℕ, zero, suc, ◌+◌, ◌*◌, ◌<◌, ◌≤◌, ◌^◌, ◌==◌, ℤ, pos, unsigned_abs, Bool, true, false, not, ◌&&◌, ◌||◌, cond, Option, Some, None, List, [], ◌∷◌, ◌++◌, length, drop, map, filter, fold, refl, sym, ap, ◌∙◌, subst, ◌⊎◌, inl, inr, arith}
-use Rattle.std.specs.Prelude.{IfSome, count_by, find, option_map, unwrap_or, nat_le, ◌-ℤ◌}
-use Rattle.std.specs.List.{AllByRecursion, list_any, cons_option}
-use Rattle.std.proofs.lemmas.Bool.{false≢true, and_parts, leb-true, eqb-true, eqb-false, eq-eqb, not-true}
+use Rattle.std.proofs.Common.{◌≡◌, ℕ, zero, suc, ◌+◌, ◌≤◌, ◌==◌, ℤ, pos, unsigned_abs, Bool, true, false, cond, Option, Some, None, List, [], ◌∷◌, ◌++◌, length, drop, refl, sym, ap, ◌∙◌, subst, ◌⊎◌, inl, inr, arith}
+use Rattle.std.specs.Prelude.{IfSome, find, option_map, unwrap_or, nat_le, ◌-ℤ◌}
+use Rattle.std.specs.List.{AllByRecursion}
+use Rattle.std.proofs.lemmas.Bool.{and_parts, leb-true}
 use Rattle.std.proofs.lemmas.Int.{ints}
-use Rattle.std.proofs.lemmas.List.Filters.{length-filter_both}
-use Rattle.std.proofs.lemmas.List.Sums.{length-filter, sum_by-cons}
 use Rattle.std.proofs.lemmas.Option.{none-some}
 use Rattle.anim_names.specs.declared.lane.Lane.{Lane}
 use Rattle.anim_names.specs.declared.lane.Lane.TheVariants.{Main, Compositor}
@@ -16,20 +14,20 @@ use Rattle.tree_commit.specs.declared.runs.mark.Mark.{Mark}
 use Rattle.tree_commit.specs.declared.runs.mark.Mark.TheVariants.{Started, Finished, Aborted}
 use Rattle.tree_commit.specs.declared.runs.shown.Shown.{Shown}
 use Rattle.tree_commit.specs.declared.runs.compositor_step.CompositorStep.{CompositorStep}
-use Rattle.tree_commit.specs.declared.runs.compositor_step.CompositorStep.TheVariants.{Pull, Activate, Tick}
-use Rattle.tree_commit.specs.Trees.{TreeLists, Clock, Committed, empty_commit, next_commit, origin_of, time_of, local_time}
+use Rattle.tree_commit.specs.declared.runs.compositor_step.CompositorStep.TheVariants.{Tick}
+use Rattle.tree_commit.specs.Trees.{TreeLists, Clock, Committed, empty_commit, next_commit, origin_of, time_of}
 use Rattle.tree_commit.specs.Ranges.{IsChange}
-use Rattle.tree_commit.specs.Edits.{Change, AddElement, RemoveElement, SetOpacity, SetTransform, AddTimeline, AddModel, RemoveModel, is_in, tree_after, new_book}
-use Rattle.tree_commit.specs.Marks.{model_of, start_of, start_from, recorded_start, start_mark}
-use Rattle.tree_commit.specs.Scripts.{ScriptLists, StepOfMain, EditStep, CommitStep, DrainStep, IsStep, IsWellFormed, ticks_of, are_at_most, book_of}
-use Rattle.tree_commit.specs.Runs.{Lanes, MainLane, CompositorLane, beginning, after_letter, after, main_takes, main_step, compositor_takes, compositor_step, after_drain, unheard_events}
+use Rattle.tree_commit.specs.Edits.{Change, AddElement, RemoveElement, SetOpacity, SetTransform, AddTimeline, AddModel, RemoveModel, tree_after}
+use Rattle.tree_commit.specs.Marks.{start_from, recorded_start}
+use Rattle.tree_commit.specs.Scripts.{ScriptLists, StepOfMain, EditStep, CommitStep, DrainStep, IsStep, IsWellFormed, ticks_of, are_at_most}
+use Rattle.tree_commit.specs.Runs.{Lanes, MainLane, beginning, after_letter, after, main_takes, main_step, after_drain, unheard_events}
 use Rattle.run_laws.specs.Lists.{IsAmong}
 use Rattle.run_laws.specs.Steps.{new_marks}
 use Rattle.run_laws.specs.Shown.{lanes_at}
 use Rattle.run_laws.specs.Numbers.{HasSmallStart, StartsAreSmall, LocalTimesAreSmall}
-use Rattle.run_laws.proofs.Among.{among-append_cases, among-filter, any-among}
-use Rattle.run_laws.proofs.Births.{Birth, birth, births, births_of, births_of-cases}
-use Rattle.run_laws.proofs.RunFits.{RunFits, run_fits, active_fits}
+use Rattle.run_laws.proofs.Among.{among-append_cases}
+use Rattle.run_laws.proofs.Births.{Birth, birth, births, births_of-cases}
+use Rattle.run_laws.proofs.RunFits.{run_fits, active_fits}
 use Rattle.run_laws.proofs.MainSteps.{thin-heard}
 use Rattle.run_laws.proofs.CountLaws.{compositor-left}
 use Rattle.run_laws.proofs.StartFits.{among-cons_option}

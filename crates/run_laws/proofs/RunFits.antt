@@ -1,21 +1,21 @@
 -- What stays true along a run of a well-formed script.
-use Rattle.std.proofs.Common.{◌≡◌, ℕ, ◌+◌, ◌<◌, ◌≤◌, Bool, true, false, ◌&&◌, nat_lt, cond, Option, Some, None, List, [], ◌∷◌, ◌++◌, fold, length, refl, sym, ap, ◌∙◌, subst, ◌⊎◌, inl, inr, arith, append_assoc}
+use Rattle.std.proofs.Common.{◌≡◌, ℕ, ◌<◌, ◌≤◌, Bool, true, false, ◌&&◌, nat_lt, cond, Option, Some, None, List, [], ◌∷◌, ◌++◌, fold, refl, sym, ap, subst, inl, inr, arith, append_assoc}
 use Rattle.std.specs.Prelude.{is_none, IfSome}
-use Rattle.std.proofs.lemmas.Bool.{false≢true, and_parts, ltb-true}
+use Rattle.std.proofs.lemmas.Bool.{and_parts, ltb-true}
 use Rattle.anim_names.specs.declared.lane.Lane.{Lane}
 use Rattle.anim_names.specs.declared.lane.Lane.TheVariants.{Main, Compositor}
 use Rattle.anim_names.specs.Lists.{BeginsWith}
 use Rattle.tree_commit.specs.declared.runs.mark.Mark.{Mark}
 use Rattle.tree_commit.specs.declared.runs.compositor_step.CompositorStep.{CompositorStep}
 use Rattle.tree_commit.specs.declared.runs.compositor_step.CompositorStep.TheVariants.{Pull, Activate, Tick}
-use Rattle.tree_commit.specs.Trees.{TreeLists, Committed, empty_commit, empty_tree, groups_of}
-use Rattle.tree_commit.specs.Marks.{finish_marks, start_marks, marks_of_tick, marks_of_activation}
+use Rattle.tree_commit.specs.Trees.{Committed, empty_commit, groups_of}
+use Rattle.tree_commit.specs.Marks.{finish_marks, marks_of_tick}
 use Rattle.tree_commit.specs.Edits.{Book, new_book}
-use Rattle.tree_commit.specs.Scripts.{ScriptLists, StepOfMain, EditStep, CommitStep, DrainStep, are_allowed, IsWellFormed}
-use Rattle.tree_commit.specs.Runs.{Lanes, MainLane, CompositorLane, beginning, after_letter, after, main_step, main_takes, after_drain, newest_commit, with_pending, after_pull, after_activation, after_tick, compositor_makes, compositor_takes, compositor_step}
+use Rattle.tree_commit.specs.Scripts.{ScriptLists, StepOfMain, EditStep, CommitStep, DrainStep, IsWellFormed}
+use Rattle.tree_commit.specs.Runs.{Lanes, MainLane, CompositorLane, beginning, after_letter, after, main_step, main_takes, after_drain, newest_commit, with_pending, after_pull, after_activation, after_tick, compositor_takes, compositor_step}
 use Rattle.run_laws.specs.Lists.{IsAmong}
 use Rattle.run_laws.proofs.Among.{among-append_left}
-use Rattle.run_laws.proofs.Births.{Birth, birth, births, AreOfOneScript, births_of_script}
+use Rattle.run_laws.proofs.Births.{Birth, births, AreOfOneScript, births_of_script}
 use Rattle.run_laws.proofs.Lines.{FitsBirths, Precedes, AreOrdered, empty_fits, empty_precedes, ordered-precedes}
 use Rattle.run_laws.proofs.MainLemmas.{MainFits}
 use Rattle.run_laws.proofs.MainSteps.{book_after_next, main_fits_after}

@@ -1,5 +1,5 @@
 -- Which commits were committed, pulled, activated and shown along a word.
-use Rattle.std.proofs.Common.{◌≡◌, ℕ, ◌+◌, ◌<◌, ◌==◌, Bool, true, false, ◌&&◌, cond, nat_lt, Option, Some, None, List, [], ◌∷◌, ◌++◌, length, refl, sym, ap, ◌∙◌, subst, ◌⊎◌, inl, inr, append_assoc, arith}
+use Rattle.std.proofs.Common.{◌≡◌, ℕ, ◌<◌, ◌==◌, Bool, true, false, ◌&&◌, cond, nat_lt, Option, Some, None, List, [], ◌∷◌, ◌++◌, length, refl, sym, ap, ◌∙◌, subst, ◌⊎◌, inl, inr, append_assoc, arith}
 use Rattle.std.specs.Prelude.{IsTrue, IfSome, IsSomeAnd, is_none}
 use Rattle.std.proofs.lemmas.Bool.{false≢true, and_parts, ltb-true, eq-eqb}
 use Rattle.std.proofs.lemmas.List.{append-nil}
@@ -9,7 +9,7 @@ use Rattle.anim_names.specs.Lists.{BeginsWith}
 use Rattle.tree_commit.specs.declared.runs.mark.Mark.{Mark}
 use Rattle.tree_commit.specs.declared.runs.compositor_step.CompositorStep.{CompositorStep}
 use Rattle.tree_commit.specs.declared.runs.compositor_step.CompositorStep.TheVariants.{Pull, Activate, Tick}
-use Rattle.tree_commit.specs.Trees.{TreeLists, Committed, empty_commit, next_commit, has_model}
+use Rattle.tree_commit.specs.Trees.{Committed, empty_commit, next_commit, has_model}
 use Rattle.tree_commit.specs.Marks.{model_of}
 use Rattle.tree_commit.specs.Frames.{DrawnFrame, frame_at}
 use Rattle.tree_commit.specs.Scripts.{ScriptLists, StepOfMain, EditStep, CommitStep, DrainStep}
@@ -17,7 +17,7 @@ use Rattle.tree_commit.specs.Runs.{Lanes, MainLane, CompositorLane, beginning, a
 use Rattle.run_laws.specs.Lists.{IsAmong}
 use Rattle.run_laws.specs.Steps.{new_marks}
 use Rattle.run_laws.specs.Shown.{lanes_at, WasCommitted, WasPulled, WasActivated, ShowsActivated, AllShowActivated, IsSkipped, SkippedIsSilent}
-use Rattle.run_laws.proofs.Among.{among-append_left, among-append_cases, among-last, any-among}
+use Rattle.run_laws.proofs.Among.{among-append_left, among-append_cases, any-among}
 use Rattle.run_laws.proofs.RunFits.{newest-among}
 use Rattle.run_laws.proofs.BookLaws.{commits_only_grow}
 use Rattle.run_laws.proofs.GroupLaws.{Kind, is_finish, is_start, is_abort, kind_of}

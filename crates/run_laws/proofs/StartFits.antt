@@ -1,7 +1,7 @@
 -- What a tick starts.
-use Rattle.std.proofs.Common.{◌≡◌, ℕ, ◌+◌, ◌<◌, ◌==◌, Bool, true, false, not, ◌&&◌, ◌||◌, cond, Option, Some, None, List, [], ◌∷◌, ◌++◌, map, filter, refl, sym, ap, ◌∙◌, subst, ◌⊎◌, inl, inr, append_assoc}
-use Rattle.std.specs.Prelude.{filter_map, ℤ}
-use Rattle.std.specs.List.{list_any, list_all, cons_option}
+use Rattle.std.proofs.Common.{◌≡◌, ℕ, ◌==◌, Bool, true, false, not, ◌&&◌, cond, Option, Some, None, List, [], ◌∷◌, ◌++◌, map, refl, sym, ap, ◌∙◌, subst, ◌⊎◌, inl, inr, append_assoc}
+use Rattle.std.specs.Prelude.{filter_map}
+use Rattle.std.specs.List.{list_any, cons_option}
 use Rattle.std.proofs.lemmas.Bool.{false≢true, and_parts, and_from, or_cases, or_right, eqb-true, eqb-false, eq-eqb, ne_eqb, not-true, not_from_false, false_from_ne_true}
 use Rattle.std.proofs.lemmas.List.{append-nil}
 use Rattle.std.proofs.lemmas.List.Folds.{list_any-append}
@@ -12,15 +12,15 @@ use Rattle.keyframe_model.specs.Models.{Spec, property_of, same_property}
 use Rattle.tree_commit.specs.declared.runs.mark.Mark.{Mark}
 use Rattle.tree_commit.specs.declared.runs.mark.Mark.TheVariants.{Started, Finished, Aborted}
 use Rattle.tree_commit.specs.Trees.{TreeLists, Committed, has_model, has_group, has_element, members_of, time_of, origin_of}
-use Rattle.tree_commit.specs.Marks.{model_of, starts, ends, starts_in, starts_on, started_group, is_started, is_ended, is_running, is_group_running, blocks, is_blocked_for, pending_allows, may_start, is_ready, recorded_start, start_mark, group_marks, start_marks}
+use Rattle.tree_commit.specs.Marks.{model_of, starts, ends, starts_in, starts_on, started_group, is_started, is_ended, is_running, is_group_running, blocks, pending_allows, may_start, is_ready, recorded_start, start_mark, group_marks, start_marks}
 use Rattle.run_laws.specs.Lists.{IsAmong}
-use Rattle.run_laws.specs.Ends.{may_follow, finishes, is_finished, is_group_finished}
-use Rattle.run_laws.specs.Groups.{AreAlike, StartsLike, StartTogether}
+use Rattle.run_laws.specs.Ends.{finishes, is_finished}
+use Rattle.run_laws.specs.Groups.{AreAlike}
 use Rattle.run_laws.proofs.Among.{among-append_cases, among-map, among-map_cases, among-filter, among-filter_from, any-among, any-cases, any-none, all-among}
 use Rattle.run_laws.proofs.Births.{Birth, birth, AreOfOneScript}
 use Rattle.run_laws.proofs.Lines.{FitsBirths}
-use Rattle.run_laws.proofs.MarkFacts.{any-more, any-fewer, any-same, apart-filter, AreInOrder, order-append, order-apart, starts-about, running-mark, running-from, blocks-before, blocks-mark, finished-mark, finished-from, NoStartIn, start-before, still-idle}
-use Rattle.run_laws.proofs.MarksFit.{IsAbout, IsOfBirth, MarksFit, about-model, about-group, about-starts_in, model_there, of_active}
+use Rattle.run_laws.proofs.MarkFacts.{any-more, any-fewer, any-same, apart-filter, AreInOrder, order-append, order-apart, starts-about, blocks-before, blocks-mark, finished-mark, finished-from, NoStartIn, still-idle}
+use Rattle.run_laws.proofs.MarksFit.{IsAbout, IsOfBirth, MarksFit, about-starts_in, of_active}
 use Rattle.run_laws.proofs.FinishFits.{running-parts, running-whole}
 
 -- ---- what a ready group is

@@ -1,6 +1,5 @@
 -- The marks that one step makes.
 use Rattle.std.proofs.Common.{◌≡◌, ℕ, Bool, true, false, cond, Option, Some, None, List, [], ◌∷◌, ◌++◌, length, drop, refl, sym, ap, ◌∙◌, subst, ◌⊎◌, inl, inr, append_assoc}
-use Rattle.std.specs.Prelude.{is_none, nat_lt, ◌&&◌}
 use Rattle.std.proofs.Math.Seq.{drop-append_seam}
 use Rattle.std.proofs.lemmas.List.{append-nil}
 use Rattle.anim_names.specs.declared.lane.Lane.{Lane}
@@ -10,9 +9,9 @@ use Rattle.keyframe_model.specs.Models.{Spec}
 use Rattle.tree_commit.specs.declared.runs.mark.Mark.{Mark}
 use Rattle.tree_commit.specs.declared.runs.compositor_step.CompositorStep.{CompositorStep}
 use Rattle.tree_commit.specs.declared.runs.compositor_step.CompositorStep.TheVariants.{Pull, Activate, Tick}
-use Rattle.tree_commit.specs.Trees.{TreeLists, Committed, groups_of, members_of}
-use Rattle.tree_commit.specs.Marks.{is_ready, group_marks, finish_marks, start_mark, start_marks, marks_of_tick, marks_of_activation}
-use Rattle.tree_commit.specs.Runs.{Lanes, CompositorLane, after_letter, newest_commit, after_pull, after_activation, compositor_makes, compositor_takes, compositor_step, main_step}
+use Rattle.tree_commit.specs.Trees.{TreeLists, Committed, members_of}
+use Rattle.tree_commit.specs.Marks.{is_ready, group_marks, start_mark, start_marks, marks_of_tick, marks_of_activation}
+use Rattle.tree_commit.specs.Runs.{Lanes, CompositorLane, after_letter, after_activation, compositor_takes, compositor_step}
 use Rattle.run_laws.specs.Lists.{IsAmong}
 use Rattle.run_laws.specs.Steps.{new_marks}
 use Rattle.run_laws.proofs.Among.{among-append_cases}

@@ -1,21 +1,19 @@
 -- Laws of main's tree and its commits.
-use Rattle.std.proofs.Common.{◌≡◌, ℕ, ◌+◌, ◌<◌, ◌≤◌, ◌==◌, Bool, true, false, List, [], ◌∷◌, ◌++◌, length, refl, sym, ap, ◌∙◌, subst, ◌⊎◌, inl, inr, arith}
+use Rattle.std.proofs.Common.{◌≡◌, ◌==◌, List, [], ◌∷◌, length, refl, sym, ap, subst, ◌⊎◌, inl, inr, arith}
 use Rattle.std.specs.Prelude.{IsTrue, All}
 use Rattle.std.proofs.lemmas.Bool.{eqb-true}
 use Rattle.std.proofs.lemmas.List.Elements.{All-nil, All-cons}
 use Rattle.anim_names.specs.declared.lane.Lane.{Lane}
-use Rattle.anim_names.specs.declared.limit.TheConstants.{MOST_COMMITS}
-use Rattle.keyframe_model.specs.Models.{Spec, property_of, same_property}
-use Rattle.tree_commit.specs.Trees.{TreeLists, Clock, Committed, next_commit, has_group}
-use Rattle.tree_commit.specs.Tables.{has_timeline, HasAllTimelines}
+use Rattle.tree_commit.specs.Trees.{Committed, next_commit}
+use Rattle.tree_commit.specs.Tables.{has_timeline}
 use Rattle.tree_commit.specs.Edits.{Book}
 use Rattle.tree_commit.specs.Scripts.{ScriptLists, IsWellFormed}
-use Rattle.tree_commit.specs.Runs.{Lanes, MainLane, beginning, after}
+use Rattle.tree_commit.specs.Runs.{MainLane, beginning, after}
 use Rattle.run_laws.specs.Lists.{IsAmong}
-use Rattle.run_laws.specs.MainTree.{line_of, IdsNameOneModel, NoneReturns, NoGroupGrows, AgreeAsGroup, GroupsAgree, TimelinesStay, IsWithinLimits, MainIsWithinLimits}
+use Rattle.run_laws.specs.MainTree.{line_of, IdsNameOneModel, NoneReturns, NoGroupGrows, GroupsAgree, TimelinesStay, IsWithinLimits, MainIsWithinLimits}
 use Rattle.run_laws.proofs.Among.{among-append_cases, any-cases}
-use Rattle.run_laws.proofs.Births.{Birth, birth, births, AreOfOneScript, AreMates}
-use Rattle.run_laws.proofs.Lines.{FitsBirths, Precedes, AreOrdered, ordered-last, ordered-precedes}
+use Rattle.run_laws.proofs.Births.{Birth, birth, births, AreOfOneScript}
+use Rattle.run_laws.proofs.Lines.{FitsBirths, AreOrdered, ordered-last, ordered-precedes}
 use Rattle.run_laws.proofs.BookLemmas.{within_limits}
 use Rattle.run_laws.proofs.MainLemmas.{MainFits}
 use Rattle.run_laws.proofs.RunFits.{RunFits, run_fits, one_script}

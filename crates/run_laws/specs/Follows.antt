@@ -1,5 +1,5 @@
 -- What a commit is that is pulled while another is active: the one goes on from the other.
-use Rattle.std.specs.Prelude.{◌≡◌, ◌⊎◌, ℕ, ◌≤◌, ◌==◌, Bool, IsTrue, List, [], ◌∷◌, length, Option, IfSome, IsSomeAnd}
+use Rattle.std.specs.Prelude.{◌≡◌, ◌⊎◌, ℕ, ◌≤◌, ◌==◌, Bool, IsTrue, List, [], ◌∷◌, length, IfSome, IsSomeAnd}
 use Rattle.std.specs.List.{list_any}
 use Rattle.anim_names.specs.declared.limit.TheConstants.{MOST_MODELS}
 use Rattle.keyframe_model.specs.Models.{Spec}

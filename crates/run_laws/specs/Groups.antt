@@ -1,5 +1,5 @@
 -- Groups: their models start together and finish together, with their element there, and block alone.
-use Rattle.std.specs.Prelude.{◌≡◌, ℕ, ℤ, Bool, not, ◌&&◌, IsTrue, IsFalse, List}
+use Rattle.std.specs.Prelude.{◌≡◌, ℕ, ℤ, Bool, ◌&&◌, IsTrue, IsFalse, List}
 use Rattle.std.specs.List.{list_any}
 use Rattle.anim_names.specs.declared.lane.Lane.{Lane}
 use Rattle.anim_names.specs.declared.property.Property.{Property}

@@ -1,5 +1,5 @@
 -- Main's tree and its commits along a run.
-use Rattle.std.specs.Prelude.{◌≡◌, ℕ, ◌≤◌, ◌<◌, IsTrue, List, [], ◌∷◌, ◌++◌, length, map, All}
+use Rattle.std.specs.Prelude.{◌≡◌, ◌≤◌, ◌<◌, IsTrue, List, [], ◌∷◌, ◌++◌, length, map, All}
 use Rattle.anim_names.specs.declared.limit.TheConstants.{MOST_COMMITS, MOST_ELEMENTS, MOST_MODELS, MOST_TIMELINES}
 use Rattle.anim_names.specs.Lists.{BeginsWith}
 use Rattle.keyframe_model.specs.Models.{Spec, property_of, same_property}

@@ -1,5 +1,5 @@
 -- What a whole word leaves: nothing of either lane, a frame for each tick, and a count for each drain and the closing one.
-use Rattle.std.specs.Prelude.{◌≡◌, ℕ, ◌+◌, Bool, true, false, List, [], length, map, count_by}
+use Rattle.std.specs.Prelude.{◌≡◌, ◌+◌, Bool, true, false, List, [], length, map, count_by}
 use Rattle.anim_names.specs.declared.lane.Lane.{Lane}
 use Rattle.tree_commit.specs.Scripts.{StepOfMain, EditStep, CommitStep, DrainStep, ScriptLists, ticks_of}
 use Rattle.tree_commit.specs.Runs.{beginning, after, report_of}
