@@ -10,7 +10,7 @@ use Rattle.tree_commit.specs.Trees.{TreeLists, Committed}
 use Rattle.tree_commit.specs.Marks.{model_of, starts, ends, starts_in, is_started, is_ended, is_running, is_group_running, are_over, finishing_models, finish_marks}
 use Rattle.run_laws.specs.Lists.{IsAmong}
 use Rattle.run_laws.specs.Ends.{finishes, is_finished}
-use Rattle.run_laws.specs.Groups.{AreAlike, StartTogether}
+use Rattle.run_laws.specs.Groups.{AreAlike, StartsAgree}
 use Rattle.run_laws.proofs.Among.{among-append_cases, among-map, among-map_cases, among-filter, among-filter_from, any-among, any-cases, any-none}
 use Rattle.run_laws.proofs.Births.{Birth, AreOfOneScript}
 use Rattle.run_laws.proofs.Lines.{FitsBirths}
@@ -55,7 +55,7 @@ none_start new id ends = any-none (starts id) new (λ mark a h. end-starts id ma
 pub none_start_in : (new : List Mark) (group : ℕ) → AreEnds new → NoStartIn group new
 none_start_in new group ends mark a h = end-starts_in group mark (ends mark a) h
 
-pub ends_alike : (marks new : List Mark) → AreEnds new → StartTogether marks → StartTogether (marks ++ new)
+pub ends_alike : (marks new : List Mark) → AreEnds new → StartsAgree marks → StartsAgree (marks ++ new)
 ends_alike marks new ends h one other a b = go (among-append_cases one marks new a) (among-append_cases other marks new b)
   where
     go : IsAmong one marks ⊎ IsAmong one new → IsAmong other marks ⊎ IsAmong other new → AreAlike one other

@@ -10,7 +10,7 @@ use Rattle.tree_commit.specs.Trees.{TreeLists, Committed, has_model}
 use Rattle.tree_commit.specs.Marks.{model_of, starts, starts_in, is_started, is_ended, is_running, is_group_running, blocks}
 use Rattle.run_laws.specs.Lists.{IsAmong}
 use Rattle.run_laws.specs.Ends.{is_group_finished}
-use Rattle.run_laws.specs.Groups.{StartTogether}
+use Rattle.run_laws.specs.Groups.{StartsAgree}
 use Rattle.run_laws.proofs.Among.{any-cases}
 use Rattle.run_laws.proofs.Births.{Birth, birth, AreOfOneScript}
 use Rattle.run_laws.proofs.Lines.{FitsBirths}
@@ -69,7 +69,7 @@ pub record MarksFit (born : List Birth) (active : Committed) (marks : List Mark)
   pub running : (id : ℕ) → is_running marks id ≡ true → has_model active.tree id ≡ true
   pub ended : (model : Spec) → IsAmong model active.tree.models → is_ended marks model.id ≡ true → is_started marks model.id ≡ true
   pub grouped : (model : Spec) → IsAmong model active.tree.models → list_any (starts_in model.group) marks ≡ true → is_started marks model.id ≡ true
-  pub alike : StartTogether marks
+  pub alike : StartsAgree marks
   pub blocker : (one other element : ℕ) (property : Property) → blocks marks one element property ≡ true → blocks marks other element property ≡ true → one ≡ other
   pub finished : (group : ℕ) → is_group_finished marks group ≡ true → is_group_running marks group ≡ false
 

@@ -6,7 +6,7 @@ use Rattle.tree_commit.specs.Trees.{has_model}
 use Rattle.tree_commit.specs.Marks.{starts_in, is_started, is_ended, is_running}
 use Rattle.tree_commit.specs.Runs.{Lanes}
 use Rattle.run_laws.specs.Lists.{IsAmong}
-use Rattle.run_laws.specs.Groups.{StartTogether}
+use Rattle.run_laws.specs.Groups.{StartsAgree}
 
 -- Each model that is started and not ended is in the active commit.
 abbrev pub RunningIsActive : Lanes → Type 0
@@ -25,4 +25,4 @@ pub record GroupsAreWhole (lanes : Lanes) : Type 0 where
       (model : Spec) → IsAmong model lanes.compositor.active.tree.models
       → IsTrue (list_any (starts_in model.group) lanes.compositor.marks)
       → IsTrue (is_started lanes.compositor.marks model.id)
-  pub alike : StartTogether lanes.compositor.marks
+  pub alike : StartsAgree lanes.compositor.marks

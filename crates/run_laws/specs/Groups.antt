@@ -27,9 +27,9 @@ AreAlike (Started model group element property at start) other = StartsLike grou
 AreAlike (Finished model at) other = Unit {0}
 AreAlike (Aborted model commit) other = Unit {0}
 
--- all starts in one group are alike
-abbrev pub StartTogether : List Mark → Type 0
-StartTogether marks = (one other : Mark) → IsAmong one marks → IsAmong other marks → AreAlike one other
+-- all starts of a group agree
+abbrev pub StartsAgree : List Mark → Type 0
+StartsAgree marks = (one other : Mark) → IsAmong one marks → IsAmong other marks → AreAlike one other
 
 -- All starts of a group are of one step: one that starts in a step had not started before. They are of one element, at
 -- one tick, with one recorded start.
@@ -37,7 +37,7 @@ pub record StartsTogether (lanes : Lanes) (letter : Lane) : Type 0 where
   pub one_step :
       (group : ℕ) → IsTrue (list_any (starts_in group) (new_marks lanes letter))
       → IsFalse (list_any (starts_in group) lanes.compositor.marks)
-  pub alike : StartTogether (after_letter lanes letter).compositor.marks
+  pub alike : StartsAgree (after_letter lanes letter).compositor.marks
 
 -- A start is of an element that is in the active commit and, where the pending commit holds a model of the group, in
 -- that too.
