@@ -1,9 +1,10 @@
 -- Bytes that move in several calls, and a count of faults over them.
-use Rattle.std.proofs.Common.{◌≡◌, ℕ, ◌+◌, ◌-◌, ◌≤◌, List, [], ◌++◌, length, take, drop, Option, Some, None, refl, ap, sym, ◌∙◌, append_assoc, arith, inl, inr}
+use Rattle.std.proofs.Common.{◌≡◌, ℕ, ◌+◌, ◌-◌, ◌≤◌, List, [], ◌++◌, length, take, drop, Option, Some, None, Result, Ok, Err, OnErr, refl, ap, sym, ◌∙◌, append_assoc, length-append, arith, inl, inr}
 use Rattle.std.specs.Prelude.{IfSome}
 use Rattle.std.proofs.Math.Seq.{take-add}
 use Rattle.std.proofs.lemmas.List.{append-nil, take_all, length-drop}
 use Rattle.edge_io.specs.Edges.{Gave, Took, HasRisen}
+use Rattle.anim_top.specs.Outside.{HasGiven, most_read}
 
 pub Gave-then : (a b c : Option (List ℕ)) (x y : List ℕ) → Gave a b x → Gave b c y → Gave a c (x ++ y)
 Gave-then None b c x y p q = tt
@@ -39,3 +40,16 @@ HasRisen-before a b c le (inr last) = inr last
 pub take-+ : (text : List ℕ) (count n : ℕ) → take (count + n) text ≡ take count text ++ take n (take (length text - count) (drop count text))
 take-+ text count n =
     rw (take_all (length text - count) (drop count text) (omega (arith, length-drop count text))) (take-add count n text)
+
+-- what was read before, and a part that was lost
+pub HasGiven-then : (a b c : Option (List ℕ)) (bytes part : List ℕ) → Gave a b bytes → Gave b c part
+    → length bytes + length part ≤ most_read → HasGiven a c
+HasGiven-then a b c bytes part p q few = record {
+  bytes = bytes ++ part;
+  given = Gave-then a b c bytes part p q;
+  few = rw (length-append bytes part) few;
+}
+
+pub on_err : {T E P : Type 0} (r : Result T E) → P → OnErr r P
+on_err (Ok value) p = tt
+on_err (Err error) p = p

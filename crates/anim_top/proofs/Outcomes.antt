@@ -3,13 +3,13 @@ use Rattle.std.proofs.Common.{◌≡◌, ℕ, ◌<◌, List, length, length-appe
 use Rattle.std.specs.Prelude.{IfSome}
 use Rattle.std.proofs.lemmas.Bool.{lt-ltb, cases_lt}
 use Rattle.edge_io.specs.Edges.{Took}
-use Rattle.frame_script.specs.declared.refusal.Cause.{Cause}
-use Rattle.frame_script.specs.declared.refusal.Cause.TheVariants.{TooLong}
-use Rattle.frame_script.specs.Refusals.{Refusal}
-use Rattle.frame_script.specs.Animations.{Animation}
-use Rattle.frame_script.specs.Reading.{reading}
-use Rattle.frame_script.proofs.WholeRead.{was_written}
-use Rattle.frame_script.proofs.WholeWritten.{is_read}
+use Rattle.animation_script.specs.declared.refusal.Cause.{Cause}
+use Rattle.animation_script.specs.declared.refusal.Cause.TheVariants.{TooLong}
+use Rattle.animation_script.specs.Refusals.{Refusal}
+use Rattle.animation_script.specs.Animations.{Animation}
+use Rattle.animation_script.specs.Reading.{reading}
+use Rattle.animation_script.proofs.WholeRead.{was_written}
+use Rattle.animation_script.proofs.WholeWritten.{is_read}
 use Rattle.anim_top.specs.declared.status.Status.{Status}
 use Rattle.anim_top.specs.declared.status.Status.TheVariants.{Done, Refused}
 use Rattle.anim_top.specs.Answers.{status_for, text_for}

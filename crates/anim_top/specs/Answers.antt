@@ -1,22 +1,22 @@
--- What the program answers: which words it knows, and the status and the text for the bytes that it read.
+-- What the program answers: which commands it knows, and the status and the text for the bytes that it read.
 use Rattle.std.specs.Prelude.{◌≡◌, ℕ, Bool, false, List, [], ◌∷◌, ◌++◌, Result, Ok, Err, codes}
 use Rattle.std.specs.Fmt.{decimal}
 use Rattle.std.specs.Str.{bytes_eq}
-use Rattle.frame_script.specs.declared.refusal.Cause.{Cause}
-use Rattle.frame_script.specs.declared.refusal.Cause.TheVariants.{BadLine, TooLong}
-use Rattle.frame_script.specs.Refusals.{Refusal}
-use Rattle.frame_script.specs.Animations.{Animation, script_of, word_of}
-use Rattle.frame_script.specs.Reading.{reading}
+use Rattle.animation_script.specs.declared.refusal.Cause.{Cause}
+use Rattle.animation_script.specs.declared.refusal.Cause.TheVariants.{BadLine, TooLong}
+use Rattle.animation_script.specs.Refusals.{Refusal}
+use Rattle.animation_script.specs.Animations.{Animation, script_of, word_of}
+use Rattle.animation_script.specs.Reading.{reading}
 use Rattle.tree_commit.specs.Runs.{report_of}
 use Rattle.word_machine.specs.Texts.{line, report_text}
 use Rattle.anim_top.specs.declared.status.Status.{Status}
 use Rattle.anim_top.specs.declared.status.Status.TheVariants.{Done, Refused}
 
--- The words are a form that the program knows: `replay` alone.
-abbrev pub is_form : List (List ℕ) → Bool
-is_form [] = false
-is_form (word ∷ []) = bytes_eq word (codes "replay")
-is_form (word ∷ other ∷ more) = false
+-- The arguments are a command that the program knows: `replay` alone.
+abbrev pub is_command : List (List ℕ) → Bool
+is_command [] = false
+is_command (argument ∷ []) = bytes_eq argument (codes "replay")
+is_command (argument ∷ other ∷ more) = false
 
 -- These bytes are refused at this line, for this cause.
 abbrev pub IsRefusedAt : List ℕ → ℕ → Cause → Type 0

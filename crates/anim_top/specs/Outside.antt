@@ -1,22 +1,33 @@
 -- What a run of the program reads and writes.
 use Rattle.std.specs.Prelude.{◌≡◌, ℕ, ◌+◌, ◌^◌, ◌≤◌, List, length, take, Option, IfSome, ◌⊎◌}
 use Rattle.edge_io.specs.Edges.{Gave, Took}
-use Rattle.frame_script.specs.declared.refusal.Cause.{Cause}
-use Rattle.frame_script.specs.Animations.{Animation}
-use Rattle.frame_script.specs.Reading.{reading}
-use Rattle.frame_script.specs.Spelling.{Spells}
+use Rattle.animation_script.specs.declared.refusal.Cause.{Cause}
+use Rattle.animation_script.specs.Animations.{Animation}
+use Rattle.animation_script.specs.Reading.{reading}
+use Rattle.animation_script.specs.Spelling.{Spells}
 use Rattle.anim_top.specs.declared.status.Status.{Status}
 use Rattle.anim_top.specs.declared.status.Status.TheVariants.{Done, Refused, NoMemory}
 use Rattle.anim_top.specs.Answers.{IsRefusedAt, refusal_text, text_of_report, text_for}
 
+-- the most bytes that a script may have
 abbrev pub most_bytes : ℕ
 most_bytes = 2 ^ 20
+
+-- the most bytes that one call reads: one more, which shows that a script is too long
+abbrev pub most_read : ℕ
+most_read = most_bytes + 1
+
+-- The source gave the bytes that this call read, and lost no other byte.
+pub record HasGiven (left after : Option (List ℕ)) : Type 0 where
+  pub bytes : List ℕ
+  pub given : Gave left after bytes
+  pub few : length bytes ≤ most_read
 
 -- The source gave these bytes. Where it told its bytes they are all of them, unless there is one more than a script may
 -- have: then the rest was left.
 pub record Reads (left after : Option (List ℕ)) (bytes : List ℕ) : Type 0 where
   pub given : Gave left after bytes
-  pub few : length bytes ≤ most_bytes + 1
+  pub few : length bytes ≤ most_read
   pub whole : length bytes ≤ most_bytes → IfSome left (λ all. all ≡ bytes)
 
 -- The source's bytes were read to their end, they spell a script, and the sink took that script's report.

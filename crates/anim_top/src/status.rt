@@ -1,19 +1,21 @@
-use frame_script::Cause;
+use animation_script::Cause;
 
-/// How the program ended.
+/// How the program ended: a value, and not an act. `main` ends the process with its number.
+///
+/// It does not say what went wrong outside; the program's answer depends only on which side failed.
 #[derive(Clone, Copy, Debug, PartialEq, Eq)]
 pub enum Status {
     /// The whole output was written.
     Done,
-    /// The words are no form that the program knows. Nothing was read or written.
+    /// The arguments are no command that the program knows. Nothing was read or written.
     Usage,
     /// The script is refused at this line, for this cause, and the refusal was written.
     Refused { line: u32, cause: Cause },
-    /// The source failed. Nothing was written.
+    /// The source failed. Nothing was written, and the source lost only what was read.
     ReadFault,
-    /// The sink failed. What it took is the front of the output.
+    /// The sink failed. What it took is a front of the output.
     WriteFault,
-    /// Memory ran out. Nothing was written.
+    /// Memory ran out. Nothing was written, and the source lost only what was read.
     NoMemory,
 }
 

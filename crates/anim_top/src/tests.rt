@@ -1,8 +1,14 @@
-ghost use Rattle.std.specs.Prelude.{◌≢◌, IfOk};
+ghost use Rattle.std.specs.Prelude.{◌≡◌, ◌≢◌, IfOk};
+ghost use Rattle.anim_delegate.specs.Delegates.{MayAsk, FollowsTable};
+ghost use Rattle.easing_fixed.specs.Evaluators.{MayEase, Eases};
+ghost use Rattle.edge_io.specs.Edges.{HasRisen};
 
 use super::*;
-use edge_io::{MemorySink, MemorySource, SteadySink, SteadySource};
-use frame_script::Cause;
+use anim_delegate::{Delegate, Policy, VerdictFunction};
+use anim_names::AnimEvent;
+use animation_script::Cause;
+use easing_fixed::{Easing, EasingFunction, Evaluator};
+use edge_io::{MemorySink, MemorySource, Sink, Source, SteadySink, SteadySource};
 use std::alloc::{AllocError, Global};
 use std::test::Fail;
 
@@ -103,21 +109,97 @@ fn with_line(
     Ok(changed)
 }
 
-fn words_of(alloc: Global, words: &[&str]) -> Result<Vec<String>, AllocError> {
-    let mut all = Vec::new(alloc);
-    for word in words {
-        all.push(String::from_str(alloc, word)?)?;
+fn arguments_of(alloc: Global, text: &str) -> Result<Vec<String>, AllocError> {
+    let mut arguments = Vec::new(alloc);
+    for argument in text.split_whitespace() {
+        arguments.push(String::from_str(alloc, argument)?)?;
     }
-    Ok(all)
+    Ok(arguments)
+}
+
+/// Calls `command` with these functions as hooks.
+fn command_with<S: Source, K: Sink, F: VerdictFunction + Drop, E: EasingFunction + Drop>(
+    rt: &HostRuntime,
+    arguments: &[String],
+    source: &mut S,
+    sink: &mut K,
+    verdict: F,
+    ease: E,
+) -> Status
+    requires may_be_asked { MayAsk (F.asks verdict) }
+    requires follows_the_table { FollowsTable (F.answers verdict) }
+    requires may_ease { MayEase (E.asks ease) }
+    requires eases { Eases (E.answers ease) }
+    ensures read_fault { result ≡ Status.ReadFault → HasRisen (S.faults source.old) (S.faults source.new) }
+    ensures write_fault { result ≡ Status.WriteFault → HasRisen (K.faults sink.old) (K.faults sink.new) }
+{
+    let hooks = Hooks {
+        delegate: Delegate::new(verdict),
+        evaluator: Evaluator::new(ease),
+    };
+    command(rt, rt.alloc(), arguments, source, sink, &hooks)
+}
+
+/// Calls `plain_command` with these functions as hooks.
+fn plain_command_with<S: Source, K: Sink, F: VerdictFunction + Drop, E: EasingFunction + Drop>(
+    alloc: Global,
+    arguments: &[String],
+    source: &mut S,
+    sink: &mut K,
+    verdict: F,
+    ease: E,
+) -> Status
+    requires may_be_asked { MayAsk (F.asks verdict) }
+    requires follows_the_table { FollowsTable (F.answers verdict) }
+    requires may_ease { MayEase (E.asks ease) }
+    requires eases { Eases (E.answers ease) }
+{
+    let hooks = Hooks {
+        delegate: Delegate::new(verdict),
+        evaluator: Evaluator::new(ease),
+    };
+    plain_command(alloc, arguments, source, sink, &hooks)
+}
+
+/// Calls `command` with the functions that the program stores.
+fn run<S: Source, K: Sink>(
+    rt: &HostRuntime,
+    arguments: &[String],
+    source: &mut S,
+    sink: &mut K,
+) -> Status
+    ensures read_fault { result ≡ Status.ReadFault → HasRisen (S.faults source.old) (S.faults source.new) }
+    ensures write_fault { result ≡ Status.WriteFault → HasRisen (K.faults sink.old) (K.faults sink.new) }
+{
+    command_with(
+        rt,
+        arguments,
+        source,
+        sink,
+        Policy::verdict_on,
+        Easing::value,
+    )
+}
+
+/// Calls `plain_command` with closures as the stored functions.
+fn run_plainly<S: Source, K: Sink>(
+    alloc: Global,
+    arguments: &[String],
+    source: &mut S,
+    sink: &mut K,
+) -> Status {
+    let verdict = |policy: Policy, event: &AnimEvent| policy.verdict_on(event);
+    let ease = |easing: &Easing, p: u32| easing.value(p);
+    plain_command_with(alloc, arguments, source, sink, verdict, ease)
 }
 
 /// Replays the bytes, and gives the status and what was written.
 fn replayed(rt: &HostRuntime, bytes: &[u8]) -> Result<(Status, Vec<u8>), AllocError> {
     let alloc = rt.alloc();
-    let words = words_of(alloc, &["replay"])?;
+    let arguments = arguments_of(alloc, "replay")?;
     let mut source = MemorySource::new(bytes.to_vec(alloc)?, 100, Vec::new(alloc));
     let mut sink = MemorySink::new(alloc, 64, Vec::new(alloc))?;
-    let status = command(rt, alloc, words.as_slice(), &mut source, &mut sink);
+    let status = run(rt, arguments.as_slice(), &mut source, &mut sink);
     Ok((status, sink.taken().to_vec(alloc)?))
 }
 
@@ -236,13 +318,13 @@ fn only_the_last_line_feed_may_be_missing(rt: HostRuntime) -> Result<(), Fail> {
 #[test]
 fn a_source_that_fails_leaves_nothing_written(rt: HostRuntime) -> Result<(), Fail> {
     let alloc = rt.alloc();
-    let words = words_of(alloc, &["replay"])?;
+    let arguments = arguments_of(alloc, "replay")?;
     for failing in 0..5 {
         let failing_calls = vec![in alloc; failing]?;
         let bytes = SCRIPT.as_bytes().to_vec(alloc)?;
         let mut source = MemorySource::new(bytes, 100, failing_calls);
         let mut sink = MemorySink::new(alloc, 64, Vec::new(alloc))?;
-        let status = plain_command(alloc, words.as_slice(), &mut source, &mut sink);
+        let status = run_plainly(alloc, arguments.as_slice(), &mut source, &mut sink);
         if failing < 4 {
             assert_eq!(rt; status.number(), 4, "at call {failing}");
             assert_eq!(rt; sink.taken(), b"".as_slice());
@@ -257,11 +339,11 @@ fn a_source_that_fails_leaves_nothing_written(rt: HostRuntime) -> Result<(), Fai
 #[test]
 fn a_sink_that_fails_took_a_front_of_the_report(rt: HostRuntime) -> Result<(), Fail> {
     let alloc = rt.alloc();
-    let words = words_of(alloc, &["replay"])?;
+    let arguments = arguments_of(alloc, "replay")?;
     for failing in 0..5 {
         let mut source = SteadySource::new(SCRIPT.as_bytes().to_vec(alloc)?);
         let mut sink = MemorySink::new(alloc, 64, vec![in alloc; failing]?)?;
-        let status = plain_command(alloc, words.as_slice(), &mut source, &mut sink);
+        let status = run_plainly(alloc, arguments.as_slice(), &mut source, &mut sink);
         let taken = sink.taken();
         assert!(rt; REPORT.as_bytes().starts_with(taken));
         if failing < 4 {
@@ -276,16 +358,13 @@ fn a_sink_that_fails_took_a_front_of_the_report(rt: HostRuntime) -> Result<(), F
 }
 
 #[test]
-fn words_that_are_no_form_touch_nothing(rt: HostRuntime) -> Result<(), Fail> {
+fn arguments_that_are_no_command_touch_nothing(rt: HostRuntime) -> Result<(), Fail> {
     let alloc = rt.alloc();
     let mut source = SteadySource::new(SCRIPT.as_bytes().to_vec(alloc)?);
     let mut sink = SteadySink::new(alloc, 201)?;
     for text in ["", "replay x", "gen", "gen 0", "gen 201", "gen 01", "Run"] {
-        let mut words = Vec::new(alloc);
-        for word in text.split_whitespace() {
-            words.push(String::from_str(alloc, word)?)?;
-        }
-        let status = command(&rt, alloc, words.as_slice(), &mut source, &mut sink);
+        let arguments = arguments_of(alloc, text)?;
+        let status = run(&rt, arguments.as_slice(), &mut source, &mut sink);
         assert_eq!(rt; status.number(), 2, "for {text:?}");
         assert_eq!(rt; sink.taken(), b"".as_slice());
     }
@@ -303,8 +382,8 @@ fn steadily(
 ) -> Result<Status, AllocError>
     ensures { IfOk result (λ status. (status ≢ Status.ReadFault) × (status ≢ Status.WriteFault)) }
 {
-    let words = words_of(rt.alloc(), &["replay"])?;
-    Ok(command(rt, rt.alloc(), words.as_slice(), source, sink))
+    let arguments = arguments_of(rt.alloc(), "replay")?;
+    Ok(run(rt, arguments.as_slice(), source, sink))
 }
 
 #[test]

@@ -1,10 +1,14 @@
 -- What a contract sees of a sink over memory.
-use Rattle.std.specs.Prelude.{ℕ, List}
+use Rattle.std.specs.Prelude.{ℕ, ◌^◌, List}
+
+-- how many bytes a sink over memory has room for
+abbrev pub room : ℕ
+room = 2 ^ 20
 
 pub record SinkState : Type 0 where
   -- the bytes that were taken
   pub taken : List ℕ
-  -- a call takes so many bytes at most
+  -- the most bytes that a call takes
   pub most : ℕ
   -- the numbers of the calls that fail
   pub failing : List ℕ

@@ -4,7 +4,7 @@ use Rattle.std.specs.Prelude.{ℕ, List}
 pub record SourceState : Type 0 where
   -- the bytes that are left
   pub left : List ℕ
-  -- a call gives so many bytes at most
+  -- the most bytes that a call gives
   pub most : ℕ
   -- the numbers of the calls that fail
   pub failing : List ℕ

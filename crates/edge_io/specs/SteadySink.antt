@@ -4,7 +4,7 @@ use Rattle.std.specs.Prelude.{ℕ, List, Bool, Option, Some, None, if◌then◌e
 pub record SteadyState : Type 0 where
   -- the bytes of the pieces that fitted
   pub kept : List ℕ
-  -- so many bytes are kept at most
+  -- the most bytes that are kept
   pub room : ℕ
   -- whether each piece fitted
   pub is_whole : Bool

@@ -2,7 +2,11 @@
 //!
 //! A [`Source`] gives bytes and a [`Sink`] takes them. A contract knows the bytes that are left and taken
 //! where the source or the sink tells them, and a count of faults that never falls. So a program generic in
-//! both can say what it wrote for what it read, and a fault of its answer is a fault of the outside.
+//! both can say what it wrote for what it read, and that a fault which it answers was one of the outside.
+//!
+//! No type here knows a script, a report or a line, and none keeps the reason of a failure. Each may move to another
+//! thread and belongs to one thread at a time: the program uses both on the thread that called it, the source before
+//! its lanes run and the sink after they ended.
 #![tactic(auto)]
 
 mod call;

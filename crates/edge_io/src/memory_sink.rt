@@ -1,7 +1,6 @@
 ghost use Rattle.std.specs.Prelude.{◌≡◌, ℕ, ◌-◌, ◌<◌, ◌≤◌, ◌↔◌, ◌⊎◌, List, [], ◌++◌, length, take, min, vec_len, vec_capacity, Some, IsTrue, IsErr, IfOk, OnErr, Contains};
 ghost use Rattle.edge_io.specs.Edges.{next_count};
-ghost use Rattle.edge_io.specs.MemorySink.{SinkState};
-ghost use Rattle.edge_io.specs.declared.memory_sink.TheConstants.{ROOM};
+ghost use Rattle.edge_io.specs.MemorySink.{SinkState, room};
 
 use crate::call::is_named;
 use crate::capacity::extend_within_capacity;
@@ -9,7 +8,7 @@ use crate::{Failed, Sink};
 use std::alloc::{AllocError, Global};
 use std::marker::Model;
 
-/// How many bytes a [`MemorySink`] has room for.
+/// How many bytes a [`MemorySink`] has room for. Its clauses know this number as `room`.
 pub const ROOM: usize = 1 << 20;
 
 /// A sink over memory for tests: it takes bytes in small parts, and fails at the calls that it is told to and
@@ -34,12 +33,12 @@ impl Model for MemorySink {
       faults = s.faults;
     } };
 
-    ghost invariant = { λ s. (0 < s.most) × (vec_len s.bytes ≤ ROOM) × (ROOM ≤ vec_capacity s.bytes) };
+    ghost invariant = { λ s. (0 < s.most) × (vec_len s.bytes ≤ room) × (room ≤ vec_capacity s.bytes) };
 }
 
 impl MemorySink {
-    /// Reserves the room. A call takes `most` bytes at most. Those whose numbers, counted from 0, stand in
-    /// `failing` fail.
+    /// Reserves the room. A call takes at most `most` bytes. The calls whose numbers, counted from 0, are in
+    /// `failing` fail. `AllocError` comes where there is no memory for the room.
     pub fn new(alloc: Global, most: usize, failing: Vec<u32>) -> Result<Self, AllocError>
         requires { 0 < most }
         ensures { IfOk result (λ sink. sink ≡ record {
@@ -69,7 +68,7 @@ impl MemorySink {
     /// Whether the next call fails.
     fn is_to_fail(&self) -> bool
         ensures { IsTrue result ↔
-            (Contains self.now.failing self.now.call ⊎ (ROOM ≤ length self.now.taken)) }
+            (Contains self.now.failing self.now.call ⊎ (room ≤ length self.now.taken)) }
     {
         self.bytes.len() == ROOM || is_named(&self.failing, self.call)
     }
@@ -83,9 +82,9 @@ impl Sink for MemorySink {
     fn write(&mut self, piece: &[u8]) -> Result<usize, Failed>
         requires { 0 < length piece.now }
         ensures failing { IsErr result ↔
-            (Contains self.old.failing self.old.call ⊎ (ROOM ≤ length self.old.taken)) }
+            (Contains self.old.failing self.old.call ⊎ (room ≤ length self.old.taken)) }
         ensures count { IfOk result (λ n.
-            n ≡ min self.old.most (min (length piece.now) (ROOM - length self.old.taken))) }
+            n ≡ min self.old.most (min (length piece.now) (room - length self.old.taken))) }
         ensures ok { IfOk result (λ n. self.new ≡ record self.old {
           taken = self.old.taken ++ take n piece.now;
           call = next_count self.old.call;
@@ -103,8 +102,8 @@ impl Sink for MemorySink {
             self.faults = self.faults.saturating_add(1);
             return Err(Failed);
         }
-        let room = ROOM - self.bytes.len();
-        let count = self.most.min(piece.len()).min(room);
+        let left = ROOM - self.bytes.len();
+        let count = self.most.min(piece.len()).min(left);
         extend_within_capacity(&mut self.bytes, &piece[..count]);
         Ok(count)
     }

@@ -32,7 +32,7 @@ impl Model for MemorySource {
 }
 
 impl MemorySource {
-    /// A call gives `most` bytes at most. Those whose numbers, counted from 0, stand in `failing` fail.
+    /// A call gives at most `most` bytes. The calls whose numbers, counted from 0, are in `failing` fail.
     pub fn new(bytes: Vec<u8>, most: usize, failing: Vec<u32>) -> Self
         requires { 0 < most }
         ensures { result ≡ record {

@@ -5,8 +5,8 @@ use crate::Failed;
 
 /// Where bytes come from.
 ///
-/// `left` is the bytes that are left, where the source tells them, and `faults` counts its faults: the count
-/// never falls.
+/// The meaning `left` is the bytes that are left, where the source tells them. The meaning `faults` is how many faults
+/// it had; it never falls. A source gives bytes once: it neither goes back nor keeps what it gave.
 pub trait Source {
     ghost left: { Self → Option (List ℕ) };
 

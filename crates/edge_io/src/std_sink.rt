@@ -7,8 +7,10 @@ use std::io::{self, ErrorKind, Write};
 use std::marker::Model;
 use std::snapshot::Snapshot;
 
-/// A sink over a writer of std. Each write is flushed, so that what was taken has left the writer's buffers too.
-/// It tells the bytes that its writer tells, if the writer told them at first.
+/// A sink over a writer of std. It tells the bytes that its writer tells, if the writer told them at first.
+///
+/// Each write is flushed, so that the bytes taken have left the writer's buffers too. std says nothing of what a flush
+/// does beside keeping the bytes told, so no clause can tell that it is called: a test counts the flushes.
 ///
 /// Each error of the writer is a fault and raises the count, which stays at 2^64 - 1, and so does a write that
 /// takes no byte. A write that was interrupted is tried again; any other fault makes the call fail. Where a flush

@@ -6,7 +6,8 @@ use crate::{Failed, Source};
 use std::io::{ErrorKind, Read};
 use std::marker::Model;
 
-/// A source over a reader of std. It tells the bytes that its reader tells.
+/// A source over a reader of std. It tells the bytes that its reader tells. It keeps no buffer: a read asks the reader
+/// for no more bytes than the caller has room for.
 ///
 /// Each error of the reader is a fault and raises the count, which stays at 2^64 - 1. A read that was
 /// interrupted is tried again; any other error makes the call fail.

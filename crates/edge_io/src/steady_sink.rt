@@ -6,8 +6,8 @@ use crate::{Failed, Sink};
 use std::alloc::{AllocError, Global};
 use std::marker::Model;
 
-/// A sink over memory that never fails. It takes each piece whole and keeps those that fit in its room: it tells
-/// its bytes until a piece doesn't fit, and never again.
+/// A sink over memory that never fails. It takes each piece whole, and keeps a piece that fits in the room that is left.
+/// It tells its bytes until a piece does not fit, and never again.
 #[derive(Debug, Drop)]
 pub struct SteadySink {
     bytes: Vec<u8>,
@@ -24,7 +24,7 @@ impl Model for SteadySink {
 }
 
 impl SteadySink {
-    /// Reserves room for `room` bytes.
+    /// Reserves room for `room` bytes. `AllocError` comes where there is no memory for them.
     pub fn new(alloc: Global, room: usize) -> Result<Self, AllocError>
         ensures { IfOk result (λ sink. sink ≡ record { kept = []; room = room; is_whole = true }) }
     {

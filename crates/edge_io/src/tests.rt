@@ -48,6 +48,27 @@ impl Write for Answers<'_> {
     }
 }
 
+/// A writer that takes all that it is given. It counts its flushes, and one of them fails.
+#[derive(Drop)]
+struct Flushed {
+    flushes: u32,
+    failing: u32,
+}
+
+impl Write for Flushed {
+    fn write(&mut self, buf: &[u8]) -> io::Result<usize> {
+        Ok(buf.len())
+    }
+
+    fn flush(&mut self) -> io::Result<()> {
+        self.flushes = self.flushes.saturating_add(1);
+        if self.flushes == self.failing {
+            return Err(io::Error::from(ErrorKind::BrokenPipe));
+        }
+        Ok(())
+    }
+}
+
 #[test]
 fn a_memory_source_gives_small_parts_and_fails_where_it_is_told(
     rt: HostRuntime,
@@ -205,6 +226,18 @@ fn a_write_that_takes_nothing_and_a_flush_that_fails_are_faults(rt: HostRuntime)
     for want in [Ok(2), Err(Failed), Err(Failed), Err(Failed)] {
         assert_eq!(rt; sink.write(b"abc"), want);
     }
+}
+
+#[test]
+fn each_write_is_flushed_and_fails_where_its_flush_fails(rt: HostRuntime) {
+    let mut sink = StdSink::new(Flushed {
+        flushes: 0,
+        failing: 2,
+    });
+    for want in [Ok(3), Err(Failed), Ok(3)] {
+        assert!(rt; sink.write(b"abc") == want);
+    }
+    assert!(rt; sink.into_inner().flushes == 3);
 }
 
 fn is_shared<T: Send + Sync>() {}

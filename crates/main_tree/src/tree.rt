@@ -1,12 +1,14 @@
-ghost use Rattle.std.specs.Prelude.{◌≡◌, ◌==◌, ◌<◌, ◌≤◌, false, None, map, IfOk, OnOk, OnErr};
+ghost use Rattle.std.specs.Prelude.{◌≡◌, ◌==◌, ◌<◌, ◌≤◌, false, None, map, option_map, IfOk, OnOk, OnErr};
 ghost use Rattle.std.specs.Result.{result_err};
-ghost use Rattle.tree_commit.specs.Trees.{has_model, next_commit};
+ghost use Rattle.tree_commit.specs.Trees.{has_model, model_with, next_commit};
+ghost use Rattle.tree_commit.specs.Runs.{model_of_event};
 ghost use Rattle.tree_commit.specs.Edits.{AddElement, AddModel, AddTimeline, RemoveElement, RemoveModel, SetOpacity, SetTransform, edit_refusal, with_look, without};
 ghost use Rattle.tree_commit.specs.Tables.{element_of};
 ghost use Rattle.tree_commit.specs.Views.{change_of, look_of};
 
+use anim_delegate::{Delegate, Policy, Verdict, VerdictFunction};
 use anim_names::limit::MOST_COMMITS;
-use anim_names::{ElementId, ModelId, TimelineId};
+use anim_names::{AnimEvent, ElementId, ModelId, TimelineId};
 use anim_timeline::Timeline;
 use indexmap::IndexMap;
 use keyframe_model::ModelSpec;
@@ -20,7 +22,8 @@ use value_blend::Opacity;
 /// Main's tree: elements, keyframe models and timelines, each in order of insertion, and the book that edits of them
 /// are checked against.
 ///
-/// There is one, and it lives on main's thread. What the compositor sees of it are commits.
+/// There is one, and it lives on main's thread. What the compositor sees of it are commits. It does not keep which
+/// events were heard.
 pub struct MainTree {
     book: EditBook,
     elements: IndexMap<ElementId, Base>,
@@ -55,7 +58,7 @@ impl Model for MainTree {
 }
 
 impl MainTree {
-    ghost use Rattle.main_tree.specs.EditedTrees.{after_commit, after_edit, finds_its_target, new_tree, refusal_in, GoesWithBook};
+    ghost use Rattle.main_tree.specs.EditedTrees.{after_commit, after_edit, after_hearing, finds_its_target, new_tree, refusal_in, retires, GoesWithBook};
 
     /// The tree before any edit, which has nothing in it.
     pub fn new(alloc: Global) -> Result<MainTree, AllocError>
@@ -112,6 +115,33 @@ impl MainTree {
         )?;
         self.book.commit_made();
         Ok(commit)
+    }
+
+    /// Hears an event: where the delegate retires the event's model and the model is still there, it leaves the tree. True
+    /// exactly where a model was retired. The book stays as it is, and nothing here takes memory.
+    pub fn hear<F: VerdictFunction>(&mut self, event: &AnimEvent, delegate: &Delegate<F>) -> bool
+        ensures heard { self.new ≡ after_hearing self.old event.now }
+        ensures retired { result ≡ retires self.old.tree event.now }
+    {
+        let id = model_of(event);
+        match self.policy_of(id) {
+            None => false,
+            Some(policy) => match delegate.ask(policy, event) {
+                Verdict::Keep => false,
+                Verdict::Retire => self.remove_model(id),
+            },
+        }
+    }
+
+    // The policy of a model, where it is there.
+    fn policy_of(&self, id: ModelId) -> Option<Policy>
+        ensures policy { result ≡ option_map (λ model. model.policy) (model_with self.now.tree id) }
+        ensures together { GoesWithBook self.now }
+    {
+        match self.models.get(&id) {
+            None => None,
+            Some(model) => Some(model.policy()),
+        }
     }
 
     // Makes an edit that is not refused.
@@ -232,6 +262,17 @@ impl MainTree {
         ensures found { result ≡ has_model self.old.tree id }
     {
         self.models.shift_remove(&id).is_some()
+    }
+}
+
+// The model that an event is about.
+fn model_of(event: &AnimEvent) -> ModelId
+    ensures { result ≡ model_of_event event.now }
+{
+    match event {
+        AnimEvent::Started { model, .. } => *model,
+        AnimEvent::Finished { model, .. } => *model,
+        AnimEvent::Aborted { model, .. } => *model,
     }
 }
 

@@ -23,7 +23,7 @@ use Rattle.tree_commit.specs.Edits.{tree_after}
 use Rattle.tree_commit.specs.Marks.{event_of, aborts, is_ready, finish_marks, start_marks, marks_of_tick, marks_of_activation}
 use Rattle.tree_commit.specs.Frames.{DrawnFrame, animated_value, row_of, frame_at}
 use Rattle.tree_commit.specs.Runs.{Lanes, beginning, after_letter, after, main_step, compositor_step, after_drain, closing_report, ReportLists, report_of}
-use Rattle.frame_script.specs.Animations.{Animation, animation_parts, model_of, script_of, word_of}
+use Rattle.animation_script.specs.Animations.{Animation, animation_parts, model_of, script_of, word_of}
 use Rattle.word_machine.specs.Shortcuts.{since, is_done_at, row_with, frame_of, frames_of, finish_of, finished, events_at}
 
 -- ---- what stands after the pull and the activate

@@ -1,7 +1,7 @@
 -- The ticks of a script are all within their range.
 use Rattle.std.proofs.Common.{ℕ, ◌≤◌, List, [], ◌∷◌, All}
 use Rattle.std.proofs.lemmas.List.Elements.{All-nil, All-cons}
-use Rattle.frame_script.specs.Animations.{NeverFall, latest}
+use Rattle.animation_script.specs.Animations.{NeverFall, latest}
 
 pub All-from_NeverFall : (last : ℕ) (times : List ℕ) → NeverFall last times → All (λ time. time ≤ latest) times
 All-from_NeverFall last [] h = All-nil (λ time. time ≤ latest)

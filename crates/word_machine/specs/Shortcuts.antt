@@ -6,7 +6,7 @@ use Rattle.anim_names.specs.declared.event.AnimEvent.TheVariants.{Started, Finis
 use Rattle.micro_time.specs.Timings.{is_done}
 use Rattle.keyframe_model.specs.Models.{PropertyValue, model_value}
 use Rattle.tree_commit.specs.Frames.{DrawnRow, DrawnFrame, opacity_or, transform_or}
-use Rattle.frame_script.specs.Animations.{Animation, model_of}
+use Rattle.animation_script.specs.Animations.{Animation, model_of}
 
 -- the model's local time at a tick
 abbrev pub since : ℕ → ℕ → ℤ

@@ -5,7 +5,7 @@
 
 ghost use Rattle.std.specs.Prelude.{◌≡◌, ◌+◌, ◌≤◌, ◌^◌, ◌++◌, ◌∷◌, [], length, map, replicate, unsigned_abs, All, IfOk, OnOk, Some, None};
 ghost use Rattle.anim_names.specs.declared.lane.Lane.TheVariants.{Main, Compositor};
-ghost use Rattle.frame_script.specs.Animations.{latest, model_of, most_ticks, script_of, word_of};
+ghost use Rattle.animation_script.specs.Animations.{latest, model_of, most_ticks, script_of, word_of};
 ghost use Rattle.keyframe_model.specs.Models.{model_value};
 ghost use Rattle.keyframe_model.specs.Views.{value_of};
 ghost use Rattle.tree_commit.specs.Runs.{report_of};
@@ -14,7 +14,8 @@ ghost use Rattle.word_machine.specs.Shortcuts.{since, is_done_at, row_with, fram
 
 use crate::Report;
 use anim_names::{AnimEvent, Lane};
-use frame_script::AnimationScript;
+use animation_script::AnimationScript;
+use easing_fixed::{EasingFunction, Evaluator};
 use keyframe_model::Value;
 use std::alloc::{AllocError, Global};
 use tree_commit::{Frame, FrameRow};
@@ -24,12 +25,18 @@ use value_blend::Blend;
 const COMMIT: u32 = 1;
 
 /// What a script reports when its lanes' steps are made in the order of its word.
+///
+/// The evaluator gives each value that an easing bends. Whichever it is, the report is the same.
 #[tactic(auto, using(crate::proofs::RunLemmas::report_of_animation))]
-pub fn replay(alloc: Global, script: &AnimationScript) -> Result<Report, AllocError>
+pub fn replay<E: EasingFunction>(
+    alloc: Global,
+    script: &AnimationScript,
+    evaluator: &Evaluator<E>,
+) -> Result<Report, AllocError>
     ensures { IfOk result (λ report. report ≡ report_of (script_of script.now) (word_of script.now)) }
 {
     let word = word_of(alloc, script)?;
-    let frames = frames_of(alloc, script)?;
+    let frames = frames_of(alloc, script, evaluator)?;
     let events = events_of(alloc, script)?;
     let heard = vec![in alloc; events.len() as u32]?;
     Ok(Report::new(word, frames, events, heard))
@@ -77,14 +84,18 @@ fn local_time(start: u64, time: u64) -> i64
 
 // ---- the frames
 
-fn frames_of(alloc: Global, script: &AnimationScript) -> Result<Vec<Frame>, AllocError>
+fn frames_of<E: EasingFunction>(
+    alloc: Global,
+    script: &AnimationScript,
+    evaluator: &Evaluator<E>,
+) -> Result<Vec<Frame>, AllocError>
     ensures { IfOk result (λ frames. frames.items ≡ frames_of script.now) }
 {
     let ticks = ticks_of(script);
     let start = first_of(ticks);
     let mut frames = Vec::new(alloc);
     for time in ticks {
-        frames.push(frame_of(alloc, script, start, *time)?)?;
+        frames.push(frame_of(alloc, script, start, *time, evaluator)?)?;
     }
     Ok(frames)
 }
@@ -98,46 +109,51 @@ fn first_of(ticks: &[u64]) -> u64
     ticks.first().copied().unwrap_or(0)
 }
 
-fn frame_of(
+fn frame_of<E: EasingFunction>(
     alloc: Global,
     script: &AnimationScript,
     start: u64,
     time: u64,
+    evaluator: &Evaluator<E>,
 ) -> Result<Frame, AllocError>
     requires start_within { start ≤ latest }
     requires time_within { time ≤ latest }
     ensures { IfOk result (λ frame. frame ≡ frame_of script.now start time) }
 {
-    let row = row_at(script, local_time(start, time))?;
+    let row = row_at(script, local_time(start, time), evaluator)?;
     let rows = vec![in alloc; row]?;
     Ok(Frame::from_rows(time, COMMIT, rows))
 }
 
 // The element's row, by the value that the model has at a local time.
-fn row_at(script: &AnimationScript, local: i64) -> Result<FrameRow, AllocError>
+fn row_at<E: EasingFunction>(
+    script: &AnimationScript,
+    local: i64,
+    evaluator: &Evaluator<E>,
+) -> Result<FrameRow, AllocError>
     requires { unsigned_abs local ≤ 2 ^ 52 }
     ensures { IfOk result (λ row. drawn_row_of row ≡ row_with script.now (model_value (model_of script.now) local)) }
 {
-    match script.spec().value(local)? {
-        Some(value) => row_showing(script, value),
+    match script.spec().value(local, evaluator)? {
+        Some(value) => row_showing(script, &value),
         None => own_row(script),
     }
 }
 
 // The element's row, with a value of the model in place of its property.
-fn row_showing(script: &AnimationScript, value: Value) -> Result<FrameRow, AllocError>
-    ensures { IfOk result (λ row. drawn_row_of row ≡ row_with script.now (Some (value_of value))) }
+fn row_showing(script: &AnimationScript, value: &Value) -> Result<FrameRow, AllocError>
+    ensures { IfOk result (λ row. drawn_row_of row ≡ row_with script.now (Some (value_of value.now))) }
 {
     match value {
         Value::Opacity(opacity) => Ok(FrameRow {
             element: script.spec().element(),
-            opacity,
+            opacity: *opacity,
             transform: script.transform().copy()?,
         }),
         Value::Transform(transform) => Ok(FrameRow {
             element: script.spec().element(),
             opacity: script.opacity(),
-            transform,
+            transform: transform.copy()?,
         }),
     }
 }

@@ -1,12 +1,12 @@
 ghost use Rattle.std.specs.Prelude.{◌≤◌, length};
-ghost use Rattle.frame_script.specs.Animations.{NeverFall, most_ticks};
+ghost use Rattle.animation_script.specs.Animations.{NeverFall, most_ticks};
 
 use super::*;
 use anim_delegate::Policy;
 use anim_names::{AnimEvent, ElementId, GroupId, Lane, ModelId, TimelineId};
+use animation_script::AnimationScript;
 use curve_keys::{Curve, Key};
-use easing_fixed::Easing;
-use frame_script::AnimationScript;
+use easing_fixed::{Easing, Evaluator};
 use keyframe_model::{CurveOf, ModelSpec};
 use micro_time::{Direction, Fill, Iterations, Timing};
 use std::alloc::Global;
@@ -86,7 +86,10 @@ fn replayed(
     );
     let own = TransformList::new(alloc, &[])?;
     let script = AnimationScript::new(opacity(500_000)?, own, spec, ticks);
-    Ok(print_report(alloc, &replay(alloc, &script)?)?)
+    Ok(print_report(
+        alloc,
+        &replay(alloc, &script, &Evaluator::new(Easing::value))?,
+    )?)
 }
 
 #[test]

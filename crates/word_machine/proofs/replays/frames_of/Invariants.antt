@@ -3,4 +3,4 @@ use Rattle.word_machine.specs.Shortcuts.{frame_of}
 use Rattle.word_machine.proofs.replays.frames_of.Given as goal
 
 abbrev pub invariant-loop-time : goal.invariant-loop-time
-invariant-loop-time l = l.frames.items ≡ map (frame_of l.script l.start) (take l.time-index l.ticks)
+invariant-loop-time g l = l.frames.items ≡ map (frame_of l.script l.start) (take l.time-index l.ticks)

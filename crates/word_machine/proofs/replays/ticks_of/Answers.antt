@@ -1,6 +1,6 @@
 use Rattle.std.proofs.Common.{◌≤◌}
 use Rattle.std.proofs.lemmas.List.Elements.{All-same}
-use Rattle.frame_script.specs.Animations.{latest}
+use Rattle.animation_script.specs.Animations.{latest}
 use Rattle.word_machine.proofs.TickLemmas.{All-from_NeverFall}
 use Rattle.word_machine.proofs.replays.ticks_of.Goals as goal
 
