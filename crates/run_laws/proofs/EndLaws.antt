@@ -1,6 +1,6 @@
 -- Laws of a model's marks.
 use Rattle.std.proofs.Common.{◌≡◌, ℕ, ◌+◌, ◌≤◌, ◌==◌, Bool, true, false, not, cond, List, [], ◌∷◌, ◌++◌, refl, sym, ap, ◌∙◌, subst, append_assoc, arith}
-use Rattle.std.specs.Prelude.{count_by}
+use Rattle.std.specs.Prelude.{count_by, IsSomeAnd}
 use Rattle.std.specs.List.{list_any}
 use Rattle.std.proofs.lemmas.Bool.{false≢true, and_parts, not-true, eqb-true, eq-eqb, or_right, or_left}
 use Rattle.std.proofs.lemmas.List.{append-nil}
@@ -9,16 +9,14 @@ use Rattle.std.proofs.lemmas.List.Sums.{sum_by-cons}
 use Rattle.anim_names.specs.declared.lane.Lane.{Lane}
 use Rattle.tree_commit.specs.declared.runs.mark.Mark.{Mark}
 use Rattle.tree_commit.specs.declared.runs.mark.Mark.TheVariants.{Started, Finished, Aborted}
-use Rattle.tree_commit.specs.Trees.{has_model}
 use Rattle.tree_commit.specs.Marks.{model_of, starts, ends, aborts, is_started, is_ended}
 use Rattle.tree_commit.specs.Scripts.{ScriptLists, IsWellFormed}
 use Rattle.tree_commit.specs.Runs.{Lanes, beginning, after}
 use Rattle.run_laws.specs.Ends.{may_follow, EndsOnce, AbortedWasActive}
 use Rattle.run_laws.specs.ActiveCommit.{EndedHadStarted, GroupsAreWhole}
-use Rattle.run_laws.proofs.Among.{any-among}
 use Rattle.run_laws.proofs.MarkFacts.{AreInOrder, any-more}
 use Rattle.run_laws.proofs.RunFits.{run_fits}
-use Rattle.run_laws.proofs.GroupLaws.{Kind, is_finish, is_start, is_abort, kind_of}
+use Rattle.run_laws.proofs.GroupLaws.{Kind, is_finish, is_start, is_abort, kind_of, marked_are_active}
 use Rattle.run_laws.proofs.StepLemmas.{new-mark}
 
 -- ---- counts of marks in order
@@ -103,16 +101,23 @@ models_end_once script well word = ends_once _ (run_fits script well word).compo
 
 -- ---- aborts
 
-aborted_there : (lanes : Lanes) (model commit : ℕ) (mark : Mark) → mark ≡ Aborted model commit → Kind lanes mark → has_model lanes.compositor.active.tree model ≡ true
-aborted_there lanes model commit mark same (is_finish time other there running e) = absurd (false≢true (subst (λ m. aborts model m ≡ true) (sym same ∙ e) (eq-eqb model model refl)))
-aborted_there lanes model commit mark same (is_start time left next is) = absurd (false≢true (subst (λ m. aborts model m ≡ true) (sym same ∙ is.is) (eq-eqb model model refl)))
-aborted_there lanes model commit mark same (is_abort number other there e) =
-    let its : model ≡ other.id = ap model_of (sym same ∙ e) in
-    any-among (λ one. model == one.id) other lanes.compositor.active.tree.models there (eq-eqb model other.id its)
+-- the commit that an abort names
+abbrev number_of : Mark → ℕ
+number_of (Started model group element property at start) = 0
+number_of (Finished model at) = 0
+number_of (Aborted model commit) = commit
+
+aborted_by : (lanes : Lanes) (model commit : ℕ) (mark : Mark) → mark ≡ Aborted model commit → Kind lanes mark → IsSomeAnd lanes.compositor.pending (λ pending. pending.number ≡ commit)
+aborted_by lanes model commit mark same (is_finish time other there running e) = absurd (false≢true (subst (λ m. aborts model m ≡ true) (sym same ∙ e) (eq-eqb model model refl)))
+aborted_by lanes model commit mark same (is_start time left next is) = absurd (false≢true (subst (λ m. aborts model m ≡ true) (sym same ∙ is.is) (eq-eqb model model refl)))
+aborted_by lanes model commit mark same (is_abort number other pending there e) =
+    subst (λ p. IsSomeAnd p (λ pending. pending.number ≡ commit)) (sym pending) (ap number_of (sym e ∙ same))
 
 pub aborted_was_active : (lanes : Lanes) (letter : Lane) → AbortedWasActive lanes letter
-aborted_was_active lanes letter model commit a =
-    aborted_there lanes model commit (Aborted model commit) refl (kind_of lanes (Aborted model commit) (new-mark lanes letter (Aborted model commit) a))
+aborted_was_active lanes letter model commit a = (
+  marked_are_active lanes letter (Aborted model commit) a,
+  aborted_by lanes model commit (Aborted model commit) refl (kind_of lanes (Aborted model commit) (new-mark lanes letter (Aborted model commit) a)),
+)
 
 -- ---- the active commit
 

@@ -1,22 +1,23 @@
 -- Laws of groups.
-use Rattle.std.proofs.Common.{◌≡◌, ℕ, true, false, ◌&&◌, Option, List, ◌∷◌, ◌++◌, sym, ◌∙◌, subst, ◌⊎◌, inl, inr, append_assoc}
+use Rattle.std.proofs.Common.{Some, ap, ◌==◌, ◌≡◌, ℕ, true, false, ◌&&◌, Option, List, ◌∷◌, ◌++◌, sym, ◌∙◌, subst, ◌⊎◌, inl, inr, append_assoc}
 use Rattle.std.specs.List.{list_any}
-use Rattle.std.proofs.lemmas.Bool.{false≢true, and_parts, eqb-true, false_from_ne_true}
+use Rattle.std.proofs.lemmas.Bool.{eq-eqb, false≢true, and_parts, eqb-true, false_from_ne_true}
 use Rattle.anim_names.specs.declared.lane.Lane.{Lane}
 use Rattle.keyframe_model.specs.Models.{Spec}
 use Rattle.tree_commit.specs.declared.runs.mark.Mark.{Mark}
 use Rattle.tree_commit.specs.declared.runs.mark.Mark.TheVariants.{Finished, Aborted}
 use Rattle.tree_commit.specs.declared.runs.compositor_step.CompositorStep.{CompositorStep}
 use Rattle.tree_commit.specs.declared.runs.compositor_step.CompositorStep.TheVariants.{Tick}
-use Rattle.tree_commit.specs.Trees.{TreeLists, Committed, has_element, groups_of}
+use Rattle.tree_commit.specs.Trees.{TreeLists, Committed, has_element, has_model, groups_of}
 use Rattle.tree_commit.specs.Marks.{model_of, starts, starts_in, is_running, is_ended, pending_allows, finish_marks, start_marks, marks_of_tick}
 use Rattle.tree_commit.specs.Scripts.{ScriptLists, IsWellFormed}
 use Rattle.tree_commit.specs.Runs.{Lanes, beginning, after}
 use Rattle.run_laws.specs.Lists.{IsAmong}
 use Rattle.run_laws.specs.Steps.{new_marks}
+use Rattle.run_laws.specs.ActiveCommit.{MarkedAreActive}
 use Rattle.run_laws.specs.Ends.{finishes, is_finished}
 use Rattle.run_laws.specs.Groups.{StartsTogether, HasTarget, TargetsPresent, OneBlocker, FinishesTogether}
-use Rattle.run_laws.proofs.Among.{among-append_cases, any-cases}
+use Rattle.run_laws.proofs.Among.{any-among, among-append_cases, any-cases}
 use Rattle.run_laws.proofs.MarkFacts.{any-fewer, running-from, starts-about}
 use Rattle.run_laws.proofs.FinishFits.{finish-mark, running-parts}
 use Rattle.run_laws.proofs.ActivationFits.{abort-mark}
@@ -27,7 +28,7 @@ use Rattle.run_laws.proofs.StepLemmas.{IsNewMark, IsStart, new-mark, started-mar
 pub data Kind (lanes : Lanes) (mark : Mark) : Type 0 where
   is_finish : (time : ℕ) (model : Spec) → IsAmong model lanes.compositor.active.tree.models → is_running lanes.compositor.marks model.id ≡ true → mark ≡ Finished model.id time → Kind lanes mark
   is_start : (time : ℕ) (left : List CompositorStep) → lanes.compositor.left ≡ Tick time ∷ left → IsStart lanes.compositor.active.tree lanes.compositor.pending lanes.compositor.marks time mark → Kind lanes mark
-  is_abort : (commit : Committed) (model : Spec) → IsAmong model lanes.compositor.active.tree.models → mark ≡ Aborted model.id commit.number → Kind lanes mark
+  is_abort : (commit : Committed) (model : Spec) → lanes.compositor.pending ≡ Some commit → IsAmong model lanes.compositor.active.tree.models → mark ≡ Aborted model.id commit.number → Kind lanes mark
 
 pub kind_of : (lanes : Lanes) (mark : Mark) → IsNewMark lanes mark → Kind lanes mark
 unfolding marks_of_tick
@@ -60,7 +61,19 @@ kind_of lanes mark (inl (time, left, next, a)) = go (among-append_cases mark end
         })
 kind_of lanes mark (inr (commit, e, a)) =
     let found = abort-mark lanes.compositor.active.tree commit lanes.compositor.marks mark a in
-    is_abort commit found.0 found.1 found.3
+    is_abort commit found.0 e found.1 found.3
+
+-- a new mark is of a model of the active commit
+kind_there : (lanes : Lanes) (mark : Mark) → Kind lanes mark → has_model lanes.compositor.active.tree (model_of mark) ≡ true
+kind_there lanes mark (is_finish time model there running e) =
+    any-among (λ other. model_of mark == other.id) model lanes.compositor.active.tree.models there (eq-eqb (model_of mark) model.id (ap model_of e))
+kind_there lanes mark (is_start time left next is) =
+    any-among (λ other. model_of mark == other.id) is.model lanes.compositor.active.tree.models is.there (eq-eqb (model_of mark) is.model.id (ap model_of is.is))
+kind_there lanes mark (is_abort commit model pending there e) =
+    any-among (λ other. model_of mark == other.id) model lanes.compositor.active.tree.models there (eq-eqb (model_of mark) model.id (ap model_of e))
+
+pub marked_are_active : (lanes : Lanes) (letter : Lane) → MarkedAreActive lanes letter
+marked_are_active lanes letter mark a = kind_there lanes mark (kind_of lanes mark (new-mark lanes letter mark a))
 
 -- ---- starts
 
@@ -70,7 +83,7 @@ new_start lanes group mark (is_start time left next is) s =
     let own : group ≡ is.model.group = eqb-true group is.model.group (subst (λ m. starts_in group m ≡ true) is.is s) in
     subst (λ g. list_any (starts_in g) lanes.compositor.marks ≡ false) (sym own)
     (any-fewer (starts_in is.model.group) lanes.compositor.marks is.goes_on.0 (subst (λ l. list_any (starts_in is.model.group) l ≡ false) is.goes_on.1 is.ready.unstarted))
-new_start lanes group mark (is_abort commit model there e) s = absurd (false≢true (subst (λ m. starts_in group m ≡ true) e s))
+new_start lanes group mark (is_abort commit model pending there e) s = absurd (false≢true (subst (λ m. starts_in group m ≡ true) e s))
 
 pub starts_together : (script : ScriptLists) → IsWellFormed script → (word : List Lane) (letter : Lane) → StartsTogether (after (beginning script) word) letter
 starts_together script well word letter = record {
@@ -90,7 +103,7 @@ has_target lanes mark (is_start time left next is) =
     let both = and_parts (has_element lanes.compositor.active.tree is.model.element && pending_allows lanes.compositor.pending is.model.group is.model.element) _ may in
     let parts = and_parts (has_element lanes.compositor.active.tree is.model.element) _ both.0 in
     subst (λ m. HasTarget lanes m) (sym is.is) (parts.0, parts.1)
-has_target lanes mark (is_abort commit model there e) = subst (λ m. HasTarget lanes m) (sym e) tt
+has_target lanes mark (is_abort commit model pending there e) = subst (λ m. HasTarget lanes m) (sym e) tt
 
 pub targets_present : (lanes : Lanes) (letter : Lane) → TargetsPresent lanes letter
 targets_present lanes letter mark a = has_target lanes mark (kind_of lanes mark (new-mark lanes letter mark a))
@@ -105,7 +118,7 @@ new_finish : (lanes : Lanes) (id : ℕ) (mark : Mark) → Kind lanes mark → fi
 new_finish lanes id mark (is_finish time model there running e) f =
     subst (λ i. is_running lanes.compositor.marks i ≡ true) (sym (eqb-true id model.id (subst (λ m. finishes id m ≡ true) e f))) running
 new_finish lanes id mark (is_start time left next is) f = absurd (false≢true (subst (λ m. finishes id m ≡ true) is.is f))
-new_finish lanes id mark (is_abort commit model there e) f = absurd (false≢true (subst (λ m. finishes id m ≡ true) e f))
+new_finish lanes id mark (is_abort commit model pending there e) f = absurd (false≢true (subst (λ m. finishes id m ≡ true) e f))
 
 pub finishes_together : (script : ScriptLists) → IsWellFormed script → (word : List Lane) (letter : Lane) → FinishesTogether (after (beginning script) word) letter
 finishes_together script well word letter group id done of_group = false_from_ne_true _ go

@@ -166,7 +166,7 @@ new_start_small script well word mark (is_start time left next is) =
     subst HasSmallStart (sym is.is)
     (recorded-small is.model.start (time_of lanes.compositor.active.tree time is.model) may.start
     (time-small lanes.compositor.active.tree time is.model (active_clocks script well word) (next_tick script well word time left next)))
-new_start_small script well word mark (is_abort commit model there e) = subst HasSmallStart (sym e) tt
+new_start_small script well word mark (is_abort commit model pending there e) = subst HasSmallStart (sym e) tt
 
 pub starts_are_small : (script : ScriptLists) → IsWellFormed script → (word : List Lane) → StartsAreSmall (after (beginning script) word).compositor.marks
 unfolding after

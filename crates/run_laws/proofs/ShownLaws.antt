@@ -1,7 +1,7 @@
 -- Which commits were committed, pulled, activated and shown along a word.
-use Rattle.std.proofs.Common.{◌≡◌, ℕ, ◌<◌, ◌==◌, Bool, true, false, ◌&&◌, cond, nat_lt, Option, Some, None, List, [], ◌∷◌, ◌++◌, length, refl, sym, ap, ◌∙◌, subst, ◌⊎◌, inl, inr, append_assoc, arith}
+use Rattle.std.proofs.Common.{◌≡◌, ℕ, ◌<◌, Bool, true, false, ◌&&◌, cond, nat_lt, Option, Some, None, List, [], ◌∷◌, ◌++◌, length, refl, sym, ap, ◌∙◌, subst, ◌⊎◌, inl, inr, append_assoc, arith}
 use Rattle.std.specs.Prelude.{IsTrue, IfSome, IsSomeAnd, is_none}
-use Rattle.std.proofs.lemmas.Bool.{false≢true, and_parts, ltb-true, eq-eqb}
+use Rattle.std.proofs.lemmas.Bool.{false≢true, and_parts, ltb-true}
 use Rattle.std.proofs.lemmas.List.{append-nil}
 use Rattle.anim_names.specs.declared.lane.Lane.{Lane}
 use Rattle.anim_names.specs.declared.lane.Lane.TheVariants.{Main, Compositor}
@@ -17,11 +17,11 @@ use Rattle.tree_commit.specs.Runs.{Lanes, MainLane, CompositorLane, beginning, a
 use Rattle.run_laws.specs.Lists.{IsAmong}
 use Rattle.run_laws.specs.Steps.{new_marks}
 use Rattle.run_laws.specs.Shown.{lanes_at, WasCommitted, WasPulled, WasActivated, ShowsActivated, AllShowActivated, IsSkipped, SkippedIsSilent}
-use Rattle.run_laws.proofs.Among.{among-append_left, among-append_cases, any-among}
+use Rattle.run_laws.proofs.Among.{among-append_left, among-append_cases}
 use Rattle.run_laws.proofs.RunFits.{newest-among}
 use Rattle.run_laws.proofs.BookLaws.{commits_only_grow}
-use Rattle.run_laws.proofs.GroupLaws.{Kind, is_finish, is_start, is_abort, kind_of}
-use Rattle.run_laws.proofs.StepLemmas.{new-mark, new-split}
+use Rattle.run_laws.proofs.GroupLaws.{marked_are_active}
+use Rattle.run_laws.proofs.StepLemmas.{new-split}
 use Rattle.run_laws.proofs.WordLemmas.{after-append, goes_on_same, goes_on_trans}
 
 -- ---- letter by letter
@@ -276,11 +276,6 @@ record WasActive (script : ScriptLists) (word : List Lane) (mark : Mark) : Type 
   begins : BeginsWith word front
   there : has_model (lanes_at script front).compositor.active.tree (model_of mark) ≡ true
 
-kind_there : (lanes : Lanes) (mark : Mark) → Kind lanes mark → has_model lanes.compositor.active.tree (model_of mark) ≡ true
-kind_there lanes mark (is_finish time model there running e) = any-among (λ other. model_of mark == other.id) model lanes.compositor.active.tree.models there (eq-eqb (model_of mark) model.id (ap model_of e))
-kind_there lanes mark (is_start time left next is) = any-among (λ other. model_of mark == other.id) is.model lanes.compositor.active.tree.models is.there (eq-eqb (model_of mark) is.model.id (ap model_of is.is))
-kind_there lanes mark (is_abort commit model there e) = any-among (λ other. model_of mark == other.id) model lanes.compositor.active.tree.models there (eq-eqb (model_of mark) model.id (ap model_of e))
-
 was_active : (script : ScriptLists) (word : List Lane) → (mark : Mark) → IsAmong mark (lanes_at script word).compositor.marks → WasActive script word mark
 unfolding after
 was_active script word = along_words (λ word. (mark : Mark) → IsAmong mark (lanes_at script word).compositor.marks → WasActive script word mark) (λ mark a. absurd a) next word
@@ -295,7 +290,7 @@ was_active script word = along_words (λ word. (mark : Mark) → IsAmong mark (l
         go (inr new) = record {
           front = word;
           begins = begins_longer word letter;
-          there = kind_there (lanes_at script word) mark (kind_of (lanes_at script word) mark (new-mark (lanes_at script word) letter mark new));
+          there = marked_are_active (lanes_at script word) letter mark new;
         }
 
 -- a commit stays among main's

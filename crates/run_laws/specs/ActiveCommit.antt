@@ -1,12 +1,21 @@
 -- What is true of the active commit and its models.
 use Rattle.std.specs.Prelude.{ℕ, IsTrue}
 use Rattle.std.specs.List.{list_any}
+use Rattle.anim_names.specs.declared.lane.Lane.{Lane}
 use Rattle.keyframe_model.specs.Models.{Spec}
+use Rattle.tree_commit.specs.declared.runs.mark.Mark.{Mark}
 use Rattle.tree_commit.specs.Trees.{has_model}
-use Rattle.tree_commit.specs.Marks.{starts_in, is_started, is_ended, is_running}
+use Rattle.tree_commit.specs.Marks.{model_of, starts_in, is_started, is_ended, is_running}
 use Rattle.tree_commit.specs.Runs.{Lanes}
 use Rattle.run_laws.specs.Lists.{IsAmong}
+use Rattle.run_laws.specs.Steps.{new_marks}
 use Rattle.run_laws.specs.Groups.{StartsAgree}
+
+-- Each mark that a step makes is of a model of the commit that was active before it.
+abbrev pub MarkedAreActive : Lanes → Lane → Type 0
+MarkedAreActive lanes letter =
+    (mark : Mark) → IsAmong mark (new_marks lanes letter)
+    → IsTrue (has_model lanes.compositor.active.tree (model_of mark))
 
 -- Each model that is started and not ended is in the active commit.
 abbrev pub RunningIsActive : Lanes → Type 0

@@ -1,5 +1,5 @@
 -- How a model's marks follow one another: it starts once at most, ends once at most, and no mark stands after its end.
-use Rattle.std.specs.Prelude.{◌≡◌, ℕ, ◌≤◌, ◌==◌, Bool, false, not, ◌&&◌, IsTrue, List, ◌∷◌, ◌++◌, count_by}
+use Rattle.std.specs.Prelude.{◌≡◌, ℕ, ◌≤◌, ◌==◌, Bool, false, not, ◌&&◌, IsTrue, List, ◌∷◌, ◌++◌, count_by, IsSomeAnd}
 use Rattle.std.specs.List.{list_any}
 use Rattle.anim_names.specs.declared.lane.Lane.{Lane}
 use Rattle.tree_commit.specs.declared.runs.mark.Mark.{Mark}
@@ -30,11 +30,12 @@ pub record EndsOnce (marks : List Mark) : Type 0 where
 
 -- ---- aborts
 
--- A model that a step aborts was in the commit that was active before it.
+-- A model that a step aborts was in the commit that was active before it, and the mark names the commit that was pending.
 abbrev pub AbortedWasActive : Lanes → Lane → Type 0
 AbortedWasActive lanes letter =
     (model commit : ℕ) → IsAmong (Aborted model commit) (new_marks lanes letter)
     → IsTrue (has_model lanes.compositor.active.tree model)
+    × IsSomeAnd lanes.compositor.pending (λ pending. pending.number ≡ commit)
 
 -- ---- marks of a group
 

@@ -2,9 +2,14 @@
 
 ghost use Rattle.std.specs.Prelude.{List};
 ghost use Rattle.anim_names.specs.declared.lane.Lane.{Lane};
-ghost use Rattle.run_laws.specs.ActiveCommit.{EndedHadStarted, GroupsAreWhole, RunningIsActive};
-ghost use Rattle.tree_commit.specs.Runs.{after, beginning};
+ghost use Rattle.run_laws.specs.ActiveCommit.{EndedHadStarted, GroupsAreWhole, MarkedAreActive, RunningIsActive};
+ghost use Rattle.tree_commit.specs.Runs.{Lanes, after, beginning};
 ghost use Rattle.tree_commit.specs.Scripts.{IsWellFormed, ScriptLists};
+
+/// Each mark that a step makes is of a model of the commit that was active before the step.
+pub fn marked_models_are_active()
+    ensures { (lanes : Lanes) (letter : Lane) → MarkedAreActive lanes letter }
+{}
 
 /// A model that is started and not ended is in the active commit, so it is enough to look at the models there.
 pub fn running_models_are_active()

@@ -11,7 +11,8 @@ pub fn models_end_once()
     ensures { (script : ScriptLists) → IsWellFormed script → (word : List Lane) → EndsOnce (after (beginning script) word).compositor.marks }
 {}
 
-/// A model that a step aborts was in the commit that was active before the step.
+/// A model that a step aborts was in the commit that was active before the step, and the mark names the one that was
+/// pending.
 pub fn aborted_models_were_active()
     ensures { (lanes : Lanes) (letter : Lane) → AbortedWasActive lanes letter }
 {}
