@@ -128,7 +128,7 @@ place-zero x1 x2 p1 p2 = IsPlace-place x1 x2 0 0 p1 p2 (record {
   ];
 })
 
-place-one : (x1 x2 : ℕ) → x1 ≤ END → x2 ≤ END → ONE ≡ place x1 x2 ONE
+pub place-one : (x1 x2 : ℕ) → x1 ≤ END → x2 ≤ END → ONE ≡ place x1 x2 ONE
 place-one x1 x2 p1 p2 = IsPlace-place x1 x2 ONE ONE p1 p2 (record {
   within = omega arith;
   not_past = omega arith;

@@ -11,8 +11,8 @@ use crate::curve::{UNIT, across};
 use crate::start::{START_COUNT, STRIDE};
 use crate::{END, ONE};
 
-// How many looks aim; those after them halve the bracket.
-const AIMED: u32 = 8;
+// How many turns aim; those after them halve the bracket.
+const AIMED: u32 = 6;
 
 /// The greatest step at which the curve is no farther across than p, by the curve's start table.
 pub(crate) fn quick_place(x1: u32, x2: u32, starts: &[u128; START_COUNT], p: u32) -> u32
@@ -23,40 +23,53 @@ pub(crate) fn quick_place(x1: u32, x2: u32, starts: &[u128; START_COUNT], p: u32
     ensures value { result ≡ place x1 x2 p }
     ensures within { result ≤ ONE }
 {
-    let bound = u128::from(p) * u128::from(UNIT);
-    let interval = interval_of(starts, bound);
-    if interval == START_COUNT - 1 {
+    if p == ONE {
         return ONE;
     }
+    let bound = u128::from(p) * u128::from(UNIT);
+    let interval = interval_of(starts, bound);
     let begin = starts[interval];
     let low = interval as u32 * STRIDE;
-    let pace = pace_over(starts[interval + 1] - begin);
-    let aim = aim_from(low, bound, begin, pace);
-    place_between(x1, x2, p, low, low + STRIDE, aim, pace)
+    let rise = (starts[interval + 1] - begin) / u128::from(STRIDE);
+    place_between(
+        x1,
+        x2,
+        p,
+        low,
+        low + STRIDE,
+        aim_from(low, bound, begin, rise),
+    )
 }
 
-// The last of the table's intervals at whose beginning the curve is not past the bound.
+// The table's interval at whose beginning the curve is not past the bound, and at whose end it is.
 fn interval_of(starts: &[u128; START_COUNT], bound: u128) -> usize
-    requires { slice_index starts.now 0 ≤ bound }
-    ensures within { result ≤ 16 }
+    requires begun { slice_index starts.now 0 ≤ bound }
+    requires ended { bound < slice_index starts.now 16 }
+    ensures within { result < 16 }
     ensures not_past { slice_index starts.now result ≤ bound }
-    ensures past { result < 16 → bound < slice_index starts.now (result + 1) }
+    ensures past { bound < slice_index starts.now (result + 1) }
 {
-    let mut low = 0;
-    let mut high = START_COUNT;
-    while high - low > 1 {
-        let middle = low + (high - low) / 2;
-        if starts[middle] <= bound {
-            low = middle;
-        } else {
-            high = middle;
-        }
-    }
-    low
+    let of_two = later_half(starts, 0, 8, bound);
+    let of_four = later_half(starts, of_two, 4, bound);
+    let of_eight = later_half(starts, of_four, 2, bound);
+    later_half(starts, of_eight, 1, bound)
+}
+
+// Where of two neighbours, each so many intervals wide, the one begins in which the curve passes the bound.
+fn later_half(starts: &[u128; START_COUNT], low: usize, width: usize, bound: u128) -> usize
+    requires fits { low + width + width ≤ 16 }
+    requires begun { slice_index starts.now low ≤ bound }
+    requires ended { bound < slice_index starts.now (low + width + width) }
+    ensures within { result + width ≤ 16 }
+    ensures not_past { slice_index starts.now result ≤ bound }
+    ensures past { bound < slice_index starts.now (result + width) }
+{
+    let middle = low + width;
+    if starts[middle] <= bound { middle } else { low }
 }
 
 // The place, where these two steps are a bracket of it.
-fn place_between(x1: u32, x2: u32, p: u32, begin: u32, end: u32, aim: i64, pace: u64) -> u32
+fn place_between(x1: u32, x2: u32, p: u32, begin: u32, end: u32, aim: i64) -> u32
     requires first { x1 ≤ END }
     requires second { x2 ≤ END }
     requires progress { p ≤ ONE }
@@ -71,52 +84,47 @@ fn place_between(x1: u32, x2: u32, p: u32, begin: u32, end: u32, aim: i64, pace:
     let mut low = begin;
     let mut high = end;
     let mut aim = aim;
-    let mut looks = 0;
+    let mut turns = 0;
     while high - low > 1 {
-        let middle = look_at(low, high, aim, looks);
+        let middle = look_at(low, high, aim, turns);
         let reached = across(x1, x2, middle);
-        aim = aim_from(middle, bound, reached, pace);
-        looks = (looks + 1).min(AIMED);
-        if reached <= bound {
-            low = middle;
-        } else {
+        let next = across(x1, x2, middle + 1);
+        if reached > bound {
             high = middle;
+        } else if next <= bound {
+            low = middle + 1;
+        } else {
+            return middle;
         }
+        aim = aim_from(middle, bound, reached, next.saturating_sub(reached));
+        turns = (turns + 1).min(AIMED);
     }
     low
 }
 
-// The step to look at next: the one aimed at, brought within the bracket, or after enough looks the middle.
-fn look_at(low: u32, high: u32, aim: i64, looks: u32) -> u32
+// The step to look at next: the one aimed at, brought within the bracket, or after enough turns the middle.
+fn look_at(low: u32, high: u32, aim: i64, turns: u32) -> u32
     requires { low + 1 < high }
     ensures above { low < result }
     ensures below { result < high }
 {
-    if looks < AIMED {
+    if turns < AIMED {
         aim.clamp(i64::from(low) + 1, i64::from(high) - 1) as u32
     } else {
         low + (high - low) / 2
     }
 }
 
-// How many steps the curve takes, on the average of an interval, to get so far across, in 2^-30.
-fn pace_over(span: u128) -> u64 {
-    (1 << 62) / ((span >> 44).min(1 << 40) as u64 + 1)
+// Where the curve would pass the bound if, from this step on, where it is so far across, each step took it as far as
+// the first. It is a guess, in numbers without their lower 44 bits.
+fn aim_from(step: u32, bound: u128, reached: u128, rise: u128) -> i64 {
+    let pace = u32::MAX / ((rise >> 44).clamp(1, 1 << 20) as u32);
+    let gap = coarse(bound) - coarse(reached);
+    i64::from(step).wrapping_add(gap.wrapping_mul(i64::from(pace)) >> 32)
 }
 
-// Where the curve should be as far across as the bound, if it is so far across at this step and keeps its pace.
-fn aim_from(step: u32, bound: u128, reached: u128, pace: u64) -> i64 {
-    if reached <= bound {
-        i64::from(step) + steps_over(bound - reached, pace)
-    } else {
-        i64::from(step) - steps_over(reached - bound, pace)
-    }
-}
-
-// How many steps the curve takes to get so far across at this pace.
-fn steps_over(gap: u128, pace: u64) -> i64
+fn coarse(across: u128) -> i64
     ensures { unsigned_abs result ≤ 2 ^ 40 }
 {
-    let gap = (gap >> 30).min(1 << 52) as u64;
-    (u128::from(gap) * u128::from(pace) >> 60).min(1 << 40) as i64
+    (across >> 44).min(1 << 40) as i64
 }

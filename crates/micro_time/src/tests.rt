@@ -26,7 +26,7 @@ fn second(
 
 fn expect_rows(rt: &impl Abort, timing: &Timing, rows: &[(i64, Option<u64>)]) {
     for (local, want) in rows {
-        assert!(rt; local.unsigned_abs() <= 1 << 52);
+        assert!(rt; local.unsigned_abs() <= LARGEST_LOCAL);
         assert_eq!(rt; timing.curve_time(*local), *want, "at {local}");
     }
 }

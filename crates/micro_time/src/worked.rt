@@ -18,7 +18,7 @@ pub fn two_and_a_half_iterations()
     ensures done { IsTrue (is_done two_and_a_half (pos 2500000)) }
 {}
 
-/// At their end and ever after the curve time stands, and the animation is done.
+/// At their end and ever after the curve time is the same, and the animation is done.
 pub fn two_and_a_half_iterations_over(local: i64)
     requires { pos 2500000 ≤ℤ local }
     ensures stands { curve_time two_and_a_half local ≡ Some 500000 }

@@ -5,7 +5,7 @@ ghost use Rattle.value_blend.specs.declared.TheConstants.{ONE};
 ghost use Rattle.transform_ops.specs.Lists.{IsAlike, IsList, blend_lists};
 ghost use Rattle.transform_ops.specs.declared.op.TransformOp.{TransformOp};
 
-/// At 0 a blend moves like the list that it comes from, and at 2^20 like the list that it goes to.
+/// At 0 a blend moves like the list that it comes from, and at `ONE` like the list that it goes to.
 pub fn ends_are_alike()
     ensures begin { (from to : List TransformOp) → IsList from → IsAlike (blend_lists from to (pos 0)) from }
     ensures end { (from to : List TransformOp) → IsList to → IsAlike (blend_lists from to (pos ONE)) to }

@@ -1,4 +1,4 @@
--- Where a blend stands at the beginning and at the end of the way, and that it stays in range.
+-- What a blend is at the beginning and at the end of the way, and that it stays in range.
 use Rattle.std.proofs.Common.{◌≡◌, ℕ, suc, ◌+◌, ◌*◌, ℤ, pos, negsuc, ◌-ℤ◌, ◌*ℤ◌, refl, ap, ◌∙◌, arith}
 use Rattle.std.proofs.Math.IntN.{+ℤ_idr, +ℤ_comm, -ℤ-+ℤ_cancel}
 use Rattle.std.proofs.lemmas.Bool.Decides.{nat_tests}

@@ -6,7 +6,7 @@ use crate::{Blend, FULL_OPACITY, number};
 use std::alloc::AllocError;
 use std::marker::Model;
 
-/// How much an element hides of what lies behind it, in millionths: 0 is invisible, 1,000,000 opaque.
+/// How much an element hides of what lies behind it, in millionths: 0 is invisible, [`FULL_OPACITY`] opaque.
 #[derive(Clone, Copy, Debug, PartialEq, Eq, Hash, PartialOrd, Ord)]
 pub struct Opacity {
     millionths: u32,
@@ -26,7 +26,8 @@ impl Model for Opacity {
 }
 
 impl Opacity {
-    /// The opacity of so many millionths. There is none exactly where they are below 0 or above 1,000,000.
+    /// The opacity of so many millionths. There is none exactly where they are below 0 or above
+    /// [`FULL_OPACITY`].
     pub fn new(millionths: i64) -> Option<Opacity>
         ensures { result ≡ opacity_of millionths }
     {

@@ -1,4 +1,5 @@
 ghost use Rattle.std.specs.Prelude.{◌≤◌, length};
+ghost use Rattle.easing_fixed.specs.Evaluators.{MayEase, Eases};
 ghost use Rattle.animation_script.specs.Animations.{NeverFall, most_ticks};
 
 use super::*;
@@ -6,7 +7,7 @@ use anim_delegate::Policy;
 use anim_names::{AnimEvent, ElementId, GroupId, Lane, ModelId, TimelineId};
 use animation_script::AnimationScript;
 use curve_keys::{Curve, Key};
-use easing_fixed::{Easing, Evaluator};
+use easing_fixed::{Easing, EasingFunction, Evaluator};
 use keyframe_model::{CurveOf, ModelSpec};
 use micro_time::{Direction, Fill, Iterations, Timing};
 use std::alloc::Global;
@@ -86,10 +87,21 @@ fn replayed(
     );
     let own = TransformList::new(alloc, &[])?;
     let script = AnimationScript::new(opacity(500_000)?, own, spec, ticks);
-    Ok(print_report(
-        alloc,
-        &replay(alloc, &script, &Evaluator::new(Easing::value))?,
-    )?)
+    report_with(alloc, &script, Easing::value)
+}
+
+/// Replays a script with this function as the evaluator's, and prints the report.
+fn report_with<E: EasingFunction + Drop>(
+    alloc: Global,
+    script: &AnimationScript,
+    ease: E,
+) -> Result<Vec<u8>, Fail>
+    requires may_ease { MayEase (E.asks ease) }
+    requires eases { Eases (E.answers ease) }
+{
+    let evaluator = Evaluator::new(ease);
+    let report = replay(alloc, script, &evaluator)?;
+    Ok(print_report(alloc, &report)?)
 }
 
 #[test]

@@ -1,0 +1,44 @@
+-- What a commit is that may become the pending one: it goes on from the active commit and from the marks so far.
+use Rattle.std.specs.Prelude.{◌≡◌, ◌⊎◌, ℕ, ◌==◌, Bool, IsTrue, List, [], ◌∷◌}
+use Rattle.std.specs.List.{list_any}
+use Rattle.keyframe_model.specs.Models.{Spec, property_of, same_property}
+use Rattle.tree_commit.specs.declared.runs.mark.Mark.{Mark}
+use Rattle.tree_commit.specs.Trees.{TreeLists, has_group, origin_of}
+use Rattle.tree_commit.specs.Tables.{has_timeline}
+use Rattle.tree_commit.specs.Marks.{model_of, starts_in}
+
+-- one of the elements of the list is this one
+abbrev pub IsAmong : {A : Type 0} → A → List A → Type 0
+IsAmong x [] = ⊥
+IsAmong x (y ∷ ys) = (x ≡ y) ⊎ IsAmong x ys
+
+-- Two models may be of one group: they agree in element, timeline and given start, and are of two properties.
+pub record AgreeAsGroup (one other : Spec) : Type 0 where
+  pub element : one.element ≡ other.element
+  pub timeline : one.timeline ≡ other.timeline
+  pub start : one.start ≡ other.start
+  pub property : IsTrue (same_property (property_of one) (property_of other)) → one.id ≡ other.id
+
+-- the model started, finished or was aborted
+abbrev pub has_mark : List Mark → ℕ → Bool
+has_mark marks id = list_any (λ mark. id == model_of mark) marks
+
+-- The pending tree goes on from the active one and from the marks so far.
+-- A model of both is one. A model of the pending tree that has a mark is in the active one; so is one whose group has a
+-- model there, or started. The models of a group agree. Each timeline of the active tree is there with its zero.
+pub record Follows (active pending : TreeLists) (marks : List Mark) : Type 0 where
+  pub one_model :
+      (model twin : Spec) → IsAmong model active.models → IsAmong twin pending.models → model.id ≡ twin.id
+      → model ≡ twin
+  pub marked : (model : Spec) → IsAmong model pending.models → IsTrue (has_mark marks model.id) → IsAmong model active.models
+  pub group_there :
+      (model : Spec) → IsAmong model pending.models → IsTrue (has_group active model.group) → IsAmong model active.models
+  pub group_started :
+      (model : Spec) → IsAmong model pending.models → IsTrue (list_any (starts_in model.group) marks)
+      → IsAmong model active.models
+  pub groups_agree :
+      (model mate : Spec) → IsAmong model pending.models → IsAmong mate pending.models → model.group ≡ mate.group
+      → AgreeAsGroup model mate
+  pub timelines :
+      (id : ℕ) → IsTrue (has_timeline active id)
+      → IsTrue (has_timeline pending id) × (origin_of pending id ≡ origin_of active id)
