@@ -3,7 +3,7 @@ use Rattle.std.proofs.Common.{◌≡◌, Bool, true, false, cond, List, [], ◌�
 use Rattle.std.specs.List.{list_any, list_all}
 use Rattle.std.proofs.lemmas.Bool.{false≢true, or_left, or_right, or_cases, and_parts}
 use Rattle.tree_commit.specs.Edits.{without}
-use Rattle.run_laws.specs.Lists.{IsAmong}
+use Rattle.tree_commit.specs.Follows.{IsAmong}
 
 pub among-append_left : {A : Type 0} (x : A) (xs ys : List A) → IsAmong x xs → IsAmong x (xs ++ ys)
 among-append_left x [] ys h = absurd h

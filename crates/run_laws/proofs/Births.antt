@@ -13,7 +13,7 @@ use Rattle.keyframe_model.specs.Models.{Spec, property_of, same_property}
 use Rattle.tree_commit.specs.declared.edits.refusal.EditRefusal.{EditRefusal}
 use Rattle.tree_commit.specs.Edits.{Change, AddElement, RemoveElement, SetOpacity, SetTransform, AddTimeline, AddModel, RemoveModel, GroupParts, Book, new_book, is_in, parts_of, is_closed, is_mixed, model_refusal, edit_refusal, new_parts, with_property, with_member, book_after, book_after_commit}
 use Rattle.tree_commit.specs.Scripts.{StepOfMain, EditStep, CommitStep, DrainStep, are_allowed, is_allowed}
-use Rattle.run_laws.specs.Lists.{IsAmong}
+use Rattle.tree_commit.specs.Follows.{IsAmong}
 
 -- ---- births
 

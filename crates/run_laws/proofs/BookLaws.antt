@@ -13,7 +13,7 @@ use Rattle.tree_commit.specs.Marks.{event_of}
 use Rattle.tree_commit.specs.Edits.{Book, new_book, is_in}
 use Rattle.tree_commit.specs.Scripts.{ScriptLists, StepOfMain, EditStep, CommitStep, DrainStep, IsWellFormed, book_of, book_after_step}
 use Rattle.tree_commit.specs.Runs.{Lanes, MainLane, beginning, after_letter, after, main_takes, main_step, after_drain}
-use Rattle.run_laws.specs.Lists.{IsAmong}
+use Rattle.tree_commit.specs.Follows.{IsAmong}
 use Rattle.run_laws.specs.Growth.{CommitsOnlyGrow, LearntStays}
 use Rattle.run_laws.specs.MainTree.{GoTogether}
 use Rattle.run_laws.proofs.Among.{among-append_left}

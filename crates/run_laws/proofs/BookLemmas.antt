@@ -9,7 +9,7 @@ use Rattle.anim_names.specs.declared.limit.TheConstants.{MOST_ELEMENTS, MOST_MOD
 use Rattle.keyframe_model.specs.Models.{Spec}
 use Rattle.tree_commit.specs.Trees.{TreeLists, Look, Element}
 use Rattle.tree_commit.specs.Edits.{Change, AddElement, RemoveElement, SetOpacity, SetTransform, AddTimeline, AddModel, RemoveModel, Book, is_in, without, with_look, edit_refusal, book_after, tree_after}
-use Rattle.run_laws.specs.Lists.{IsAmong}
+use Rattle.tree_commit.specs.Follows.{IsAmong}
 use Rattle.run_laws.specs.MainTree.{IsWithinLimits}
 use Rattle.run_laws.proofs.Among.{among-append_cases}
 use Rattle.run_laws.proofs.Births.{accepted, not_refused}

@@ -10,7 +10,7 @@ use Rattle.tree_commit.specs.Edits.{is_in}
 use Rattle.tree_commit.specs.Marks.{model_of}
 use Rattle.tree_commit.specs.Scripts.{ScriptLists, IsWellFormed, book_of}
 use Rattle.tree_commit.specs.Runs.{Lanes, beginning, after}
-use Rattle.run_laws.specs.Lists.{IsAmong}
+use Rattle.tree_commit.specs.Follows.{IsAmong}
 use Rattle.run_laws.specs.Numbers.{EventsAreFew}
 use Rattle.run_laws.proofs.Among.{among-filter, any-among}
 use Rattle.run_laws.proofs.EndLaws.{models_end_once}

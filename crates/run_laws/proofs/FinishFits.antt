@@ -8,7 +8,7 @@ use Rattle.tree_commit.specs.declared.runs.mark.Mark.{Mark}
 use Rattle.tree_commit.specs.declared.runs.mark.Mark.TheVariants.{Started, Finished, Aborted}
 use Rattle.tree_commit.specs.Trees.{TreeLists, Committed}
 use Rattle.tree_commit.specs.Marks.{model_of, starts, ends, starts_in, is_started, is_ended, is_running, is_group_running, are_over, finishing_models, finish_marks}
-use Rattle.run_laws.specs.Lists.{IsAmong}
+use Rattle.tree_commit.specs.Follows.{IsAmong}
 use Rattle.run_laws.specs.Ends.{finishes, is_finished}
 use Rattle.run_laws.specs.Groups.{AreAlike, StartsAgree}
 use Rattle.run_laws.proofs.Among.{among-append_cases, among-map, among-map_cases, among-filter, among-filter_from, any-among, any-cases, any-none}

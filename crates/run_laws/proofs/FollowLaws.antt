@@ -12,7 +12,8 @@ use Rattle.tree_commit.specs.Marks.{model_of, starts_in}
 use Rattle.tree_commit.specs.Edits.{new_book, is_in}
 use Rattle.tree_commit.specs.Scripts.{ScriptLists, IsWellFormed, book_of}
 use Rattle.tree_commit.specs.Runs.{Lanes, beginning, after}
-use Rattle.run_laws.specs.Follows.{Follows, PendingFollows, IsKnown, KnownWereAdded}
+use Rattle.tree_commit.specs.Follows.{Follows}
+use Rattle.run_laws.specs.Follows.{PendingFollows, IsKnown, KnownWereAdded}
 use Rattle.run_laws.proofs.Among.{any-cases}
 use Rattle.run_laws.proofs.Births.{Birth, birth, births, AreOfOneScript}
 use Rattle.run_laws.proofs.Lines.{FitsBirths, Precedes}

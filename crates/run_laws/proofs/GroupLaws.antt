@@ -12,7 +12,7 @@ use Rattle.tree_commit.specs.Trees.{TreeLists, Committed, has_element, has_model
 use Rattle.tree_commit.specs.Marks.{model_of, starts, starts_in, is_running, is_ended, pending_allows, finish_marks, start_marks, marks_of_tick}
 use Rattle.tree_commit.specs.Scripts.{ScriptLists, IsWellFormed}
 use Rattle.tree_commit.specs.Runs.{Lanes, beginning, after}
-use Rattle.run_laws.specs.Lists.{IsAmong}
+use Rattle.tree_commit.specs.Follows.{IsAmong}
 use Rattle.run_laws.specs.Steps.{new_marks}
 use Rattle.run_laws.specs.ActiveCommit.{MarkedAreActive}
 use Rattle.run_laws.specs.Ends.{finishes, is_finished}

@@ -5,7 +5,7 @@ use Rattle.keyframe_model.specs.Models.{Spec}
 use Rattle.tree_commit.specs.Trees.{Clock, Committed, empty_commit}
 use Rattle.tree_commit.specs.Tables.{has_timeline}
 use Rattle.tree_commit.specs.Edits.{without}
-use Rattle.run_laws.specs.Lists.{IsAmong}
+use Rattle.tree_commit.specs.Follows.{IsAmong}
 use Rattle.run_laws.proofs.Among.{among-without, among-append_cases}
 use Rattle.run_laws.proofs.Births.{Birth, birth}
 

@@ -10,7 +10,7 @@ use Rattle.tree_commit.specs.Tables.{has_timeline}
 use Rattle.tree_commit.specs.Edits.{AddTimeline, AddModel, Book, is_in, edit_refusal, tree_after}
 use Rattle.tree_commit.specs.Scripts.{are_allowed}
 use Rattle.tree_commit.specs.Runs.{MainLane}
-use Rattle.run_laws.specs.Lists.{IsAmong}
+use Rattle.tree_commit.specs.Follows.{IsAmong}
 use Rattle.run_laws.specs.MainTree.{IsWithinLimits}
 use Rattle.run_laws.proofs.Among.{among-append_cases, any-among}
 use Rattle.run_laws.proofs.Births.{Birth, birth, births, AreOfOneScript, accepted, not_refused}

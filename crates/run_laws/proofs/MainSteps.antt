@@ -12,7 +12,7 @@ use Rattle.tree_commit.specs.Trees.{TreeLists, Committed, next_commit, model_wit
 use Rattle.tree_commit.specs.Edits.{Change, AddElement, RemoveElement, SetOpacity, SetTransform, AddTimeline, AddModel, RemoveModel, Book, edit_refusal, book_after, book_after_commit, tree_after, without_model}
 use Rattle.tree_commit.specs.Scripts.{StepOfMain, EditStep, CommitStep, DrainStep, are_allowed, book_after_step}
 use Rattle.tree_commit.specs.Runs.{MainLane, tree_after_hearing, tree_after_verdict, model_of_event, after_drain, unheard_events, main_makes, main_takes}
-use Rattle.run_laws.specs.Lists.{IsAmong}
+use Rattle.tree_commit.specs.Follows.{IsAmong}
 use Rattle.run_laws.specs.MainTree.{IsWithinLimits}
 use Rattle.run_laws.proofs.Among.{among-append_cases}
 use Rattle.run_laws.proofs.Births.{Birth, birth, births, births_of, AreOfOneScript, commits-edit}

@@ -9,7 +9,7 @@ use Rattle.keyframe_model.specs.Models.{Spec}
 use Rattle.tree_commit.specs.declared.runs.mark.Mark.{Mark}
 use Rattle.tree_commit.specs.declared.runs.mark.Mark.TheVariants.{Started, Finished, Aborted}
 use Rattle.tree_commit.specs.Marks.{model_of, starts, ends, starts_in, starts_on, is_ended, is_group_running, blocks}
-use Rattle.run_laws.specs.Lists.{IsAmong}
+use Rattle.tree_commit.specs.Follows.{IsAmong}
 use Rattle.run_laws.specs.Ends.{may_follow, is_finished, is_group_finished}
 use Rattle.run_laws.proofs.Among.{among-append_cases, among-filter, any-among, any-cases, any-none}
 use Rattle.run_laws.proofs.Lines.{AreApart}

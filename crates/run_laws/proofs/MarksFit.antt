@@ -8,7 +8,7 @@ use Rattle.tree_commit.specs.declared.runs.mark.Mark.{Mark}
 use Rattle.tree_commit.specs.declared.runs.mark.Mark.TheVariants.{Started, Finished, Aborted}
 use Rattle.tree_commit.specs.Trees.{TreeLists, Committed, has_model}
 use Rattle.tree_commit.specs.Marks.{model_of, starts, starts_in, is_started, is_ended, is_running, is_group_running, blocks}
-use Rattle.run_laws.specs.Lists.{IsAmong}
+use Rattle.tree_commit.specs.Follows.{IsAmong}
 use Rattle.run_laws.specs.Ends.{is_group_finished}
 use Rattle.run_laws.specs.Groups.{StartsAgree}
 use Rattle.run_laws.proofs.Among.{any-cases}

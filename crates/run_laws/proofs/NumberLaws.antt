@@ -21,7 +21,7 @@ use Rattle.tree_commit.specs.Edits.{Change, AddElement, RemoveElement, SetOpacit
 use Rattle.tree_commit.specs.Marks.{start_from, recorded_start}
 use Rattle.tree_commit.specs.Scripts.{ScriptLists, StepOfMain, EditStep, CommitStep, DrainStep, IsStep, IsWellFormed, ticks_of, are_at_most}
 use Rattle.tree_commit.specs.Runs.{Lanes, MainLane, beginning, after_letter, after, main_takes, main_step, after_drain, unheard_events}
-use Rattle.run_laws.specs.Lists.{IsAmong}
+use Rattle.tree_commit.specs.Follows.{IsAmong}
 use Rattle.run_laws.specs.Steps.{new_marks}
 use Rattle.run_laws.specs.Shown.{lanes_at}
 use Rattle.run_laws.specs.Numbers.{HasSmallStart, StartsAreSmall, LocalTimesAreSmall}

@@ -14,7 +14,7 @@ use Rattle.tree_commit.specs.Marks.{model_of}
 use Rattle.tree_commit.specs.Frames.{DrawnFrame, frame_at}
 use Rattle.tree_commit.specs.Scripts.{ScriptLists, StepOfMain, EditStep, CommitStep, DrainStep}
 use Rattle.tree_commit.specs.Runs.{Lanes, MainLane, CompositorLane, beginning, after_letter, after, main_takes, main_step, after_drain, newest_commit, with_pending, after_activation, compositor_takes, compositor_step}
-use Rattle.run_laws.specs.Lists.{IsAmong}
+use Rattle.tree_commit.specs.Follows.{IsAmong}
 use Rattle.run_laws.specs.Steps.{new_marks}
 use Rattle.run_laws.specs.Shown.{lanes_at, WasCommitted, WasPulled, WasActivated, ShowsActivated, AllShowActivated, IsSkipped, SkippedIsSilent}
 use Rattle.run_laws.proofs.Among.{among-append_left, among-append_cases}

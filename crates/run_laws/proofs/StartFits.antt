@@ -13,7 +13,7 @@ use Rattle.tree_commit.specs.declared.runs.mark.Mark.{Mark}
 use Rattle.tree_commit.specs.declared.runs.mark.Mark.TheVariants.{Started, Finished, Aborted}
 use Rattle.tree_commit.specs.Trees.{TreeLists, Committed, has_model, has_group, has_element, members_of, time_of, origin_of}
 use Rattle.tree_commit.specs.Marks.{model_of, starts, ends, starts_in, starts_on, started_group, is_started, is_ended, is_running, is_group_running, blocks, pending_allows, may_start, is_ready, recorded_start, start_mark, group_marks, start_marks}
-use Rattle.run_laws.specs.Lists.{IsAmong}
+use Rattle.tree_commit.specs.Follows.{IsAmong}
 use Rattle.run_laws.specs.Ends.{finishes, is_finished}
 use Rattle.run_laws.specs.Groups.{AreAlike}
 use Rattle.run_laws.proofs.Among.{among-append_cases, among-map, among-map_cases, among-filter, among-filter_from, any-among, any-cases, any-none, all-among}

@@ -12,7 +12,7 @@ use Rattle.tree_commit.specs.declared.runs.compositor_step.CompositorStep.TheVar
 use Rattle.tree_commit.specs.Trees.{TreeLists, Committed, members_of}
 use Rattle.tree_commit.specs.Marks.{is_ready, group_marks, start_mark, start_marks, marks_of_tick, marks_of_activation}
 use Rattle.tree_commit.specs.Runs.{Lanes, CompositorLane, after_letter, after_activation, compositor_takes, compositor_step}
-use Rattle.run_laws.specs.Lists.{IsAmong}
+use Rattle.tree_commit.specs.Follows.{IsAmong}
 use Rattle.run_laws.specs.Steps.{new_marks}
 use Rattle.run_laws.proofs.Among.{among-append_cases}
 use Rattle.run_laws.proofs.StartFits.{IsReadyGroup, ready-parts, start_list, start-mark}

@@ -9,7 +9,7 @@ use Rattle.tree_commit.specs.Tables.{has_timeline}
 use Rattle.tree_commit.specs.Edits.{Book}
 use Rattle.tree_commit.specs.Scripts.{ScriptLists, IsWellFormed}
 use Rattle.tree_commit.specs.Runs.{MainLane, beginning, after}
-use Rattle.run_laws.specs.Lists.{IsAmong}
+use Rattle.tree_commit.specs.Follows.{IsAmong}
 use Rattle.run_laws.specs.MainTree.{line_of, IdsNameOneModel, NoneReturns, NoGroupGrows, GroupsAgree, TimelinesStay, IsWithinLimits, MainIsWithinLimits}
 use Rattle.run_laws.proofs.Among.{among-append_cases, any-cases}
 use Rattle.run_laws.proofs.Births.{Birth, birth, births, AreOfOneScript}

@@ -7,7 +7,7 @@ use Rattle.tree_commit.specs.declared.runs.mark.Mark.{Mark}
 use Rattle.tree_commit.specs.Trees.{has_model}
 use Rattle.tree_commit.specs.Marks.{model_of, starts_in, is_started, is_ended, is_running}
 use Rattle.tree_commit.specs.Runs.{Lanes}
-use Rattle.run_laws.specs.Lists.{IsAmong}
+use Rattle.tree_commit.specs.Follows.{IsAmong}
 use Rattle.run_laws.specs.Steps.{new_marks}
 use Rattle.run_laws.specs.Groups.{StartsAgree}
 

@@ -8,7 +8,7 @@ use Rattle.tree_commit.specs.declared.runs.mark.Mark.TheVariants.{Started, Finis
 use Rattle.tree_commit.specs.Trees.{has_element}
 use Rattle.tree_commit.specs.Marks.{starts, starts_in, blocks, pending_allows}
 use Rattle.tree_commit.specs.Runs.{Lanes, after_letter}
-use Rattle.run_laws.specs.Lists.{IsAmong}
+use Rattle.tree_commit.specs.Follows.{IsAmong}
 use Rattle.run_laws.specs.Steps.{new_marks}
 use Rattle.run_laws.specs.Ends.{is_finished, is_group_finished}
 

@@ -8,7 +8,7 @@ use Rattle.tree_commit.specs.Trees.{Committed, empty_commit}
 use Rattle.tree_commit.specs.Marks.{event_of}
 use Rattle.tree_commit.specs.Scripts.{StepOfMain, EditStep, CommitStep, DrainStep, ScriptLists}
 use Rattle.tree_commit.specs.Runs.{Lanes, beginning, after}
-use Rattle.run_laws.specs.Lists.{IsAmong}
+use Rattle.tree_commit.specs.Follows.{IsAmong}
 
 -- ---- marks and commits
 

@@ -4,7 +4,6 @@ pub mod Follows
 pub mod Groups
 pub mod Growth
 pub mod Hearing
-pub mod Lists
 pub mod MainTree
 pub mod Numbers
 pub mod Shown

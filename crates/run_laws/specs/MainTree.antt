@@ -2,12 +2,12 @@
 use Rattle.std.specs.Prelude.{◌≡◌, ◌≤◌, ◌<◌, IsTrue, List, [], ◌∷◌, ◌++◌, length, map, All}
 use Rattle.anim_names.specs.declared.limit.TheConstants.{MOST_COMMITS, MOST_ELEMENTS, MOST_MODELS, MOST_TIMELINES}
 use Rattle.anim_names.specs.Lists.{BeginsWith}
-use Rattle.keyframe_model.specs.Models.{Spec, property_of, same_property}
+use Rattle.keyframe_model.specs.Models.{Spec}
 use Rattle.tree_commit.specs.Trees.{TreeLists, Clock, Committed, next_commit, has_group}
 use Rattle.tree_commit.specs.Tables.{HasAllTimelines}
 use Rattle.tree_commit.specs.Edits.{Book, is_in}
 use Rattle.tree_commit.specs.Runs.{MainLane}
-use Rattle.run_laws.specs.Lists.{IsAmong}
+use Rattle.tree_commit.specs.Follows.{AgreeAsGroup, IsAmong}
 
 -- ---- the book
 
@@ -46,13 +46,6 @@ NoGroupGrows line =
     (older newer : Committed) → IsAmong older line → IsAmong newer line → older.number < newer.number
     → (model : Spec) → IsTrue (has_group older.tree model.group) → IsAmong model newer.tree.models
     → IsAmong model older.tree.models
-
--- Two models may be of one group: they agree in element, timeline and given start, and are of two properties.
-pub record AgreeAsGroup (one other : Spec) : Type 0 where
-  pub element : one.element ≡ other.element
-  pub timeline : one.timeline ≡ other.timeline
-  pub start : one.start ≡ other.start
-  pub property : IsTrue (same_property (property_of one) (property_of other)) → one.id ≡ other.id
 
 -- The models of a group agree, in whichever commits they are.
 abbrev pub GroupsAgree : List Committed → Type 0

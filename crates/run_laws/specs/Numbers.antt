@@ -9,7 +9,7 @@ use Rattle.tree_commit.specs.Trees.{local_time}
 use Rattle.tree_commit.specs.Marks.{start_of}
 use Rattle.tree_commit.specs.Scripts.{ScriptLists, ticks_of, book_of}
 use Rattle.tree_commit.specs.Runs.{Lanes}
-use Rattle.run_laws.specs.Lists.{IsAmong}
+use Rattle.tree_commit.specs.Follows.{IsAmong}
 
 -- the recorded start, of a mark that has one, is at most the last time in size
 abbrev pub HasSmallStart : Mark → Type 0

@@ -9,7 +9,7 @@ use Rattle.tree_commit.specs.Marks.{model_of}
 use Rattle.tree_commit.specs.Frames.{DrawnFrame}
 use Rattle.tree_commit.specs.Scripts.{ScriptLists, never_fall_from}
 use Rattle.tree_commit.specs.Runs.{Lanes, ReportLists, beginning, after}
-use Rattle.run_laws.specs.Lists.{IsAmong}
+use Rattle.tree_commit.specs.Follows.{IsAmong}
 
 -- ---- commit numbers never fall
 
