@@ -6,6 +6,7 @@
 #![tactic(auto)]
 
 mod board;
+pub mod journals;
 mod word;
 
 pub use board::Board;

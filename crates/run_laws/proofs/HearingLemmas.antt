@@ -9,7 +9,7 @@ use Rattle.anim_names.specs.declared.lane.Lane.{Lane}
 use Rattle.anim_names.specs.declared.lane.Lane.TheVariants.{Main, Compositor}
 use Rattle.tree_commit.specs.declared.runs.mark.Mark.{Mark}
 use Rattle.anim_names.specs.Lists.{BeginsWith}
-use Rattle.run_laws.specs.Laws.{HeardOnce, CountsAddUp, totals, batches, batch_of_step, batch_of_letter}
+use Rattle.run_laws.specs.Hearing.{HeardOnce, CountsAddUp, totals, batches, batch_of_step, batch_of_letter}
 use Rattle.tree_commit.specs.Marks.{event_of}
 use Rattle.tree_commit.specs.Scripts.{StepOfMain, EditStep, CommitStep, DrainStep, ScriptLists}
 use Rattle.tree_commit.specs.Runs.{Lanes, MainLane, beginning, after_letter, after, main_step, main_takes, after_drain, unheard_events, closing_report}
@@ -60,6 +60,16 @@ letter_first lanes Main h = takes_first lanes.compositor.marks lanes.main.left l
 letter_first lanes Compositor h =
     let grown = letter_grows lanes Compositor in
     rw grown.1 (more_marks lanes.compositor.marks grown.0 lanes.main h)
+
+-- What main has heard is where the events begin, after any word.
+word_first : (lanes : Lanes) (word : List Lane) → AreHeardFirst lanes.compositor.marks lanes.main → AreHeardFirst (after lanes word).compositor.marks (after lanes word).main
+unfolding after
+word_first lanes [] h = h
+word_first lanes (letter ∷ word) h = word_first (after_letter lanes letter) word (letter_first lanes letter h)
+
+pub heard_first : (script : ScriptLists) (word : List Lane) → BeginsWith (map event_of (after (beginning script) word).compositor.marks) (after (beginning script) word).main.heard
+unfolding AreHeardFirst
+heard_first script word = word_first (beginning script) word ([], refl)
 
 -- What was heard before a word, and then what its drains and the closing one hear, are the events after it.
 word_batches : (lanes : Lanes) (word : List Lane) → AreHeardFirst lanes.compositor.marks lanes.main → lanes.main.heard ++ all_of (batches lanes word) ≡ map event_of (after lanes word).compositor.marks

@@ -9,7 +9,7 @@ use Rattle.anim_names.specs.declared.lane.Lane.TheVariants.{Main, Compositor}
 use Rattle.tree_commit.specs.declared.runs.compositor_step.CompositorStep.{CompositorStep}
 use Rattle.tree_commit.specs.declared.runs.compositor_step.CompositorStep.TheVariants.{Pull, Activate, Tick}
 use Rattle.tree_commit.specs.Frames.{DrawnFrame, frame_at}
-use Rattle.run_laws.specs.Laws.{CommitNumbersNeverFall}
+use Rattle.run_laws.specs.Shown.{CommitNumbersNeverFall}
 use Rattle.tree_commit.specs.Scripts.{ScriptLists, never_fall_from, are_at_most}
 use Rattle.tree_commit.specs.Trees.{Committed}
 use Rattle.tree_commit.specs.Runs.{Lanes, CompositorLane, beginning, after_letter, after, after_activation, after_tick, compositor_step, compositor_makes, compositor_takes, newest_commit, report_of, closing_report}

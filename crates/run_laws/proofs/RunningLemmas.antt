@@ -12,7 +12,7 @@ use Rattle.tree_commit.specs.declared.runs.compositor_step.CompositorStep.TheVar
 use Rattle.keyframe_model.specs.Models.{Spec}
 use Rattle.tree_commit.specs.Trees.{TreeLists, Committed, members_of, groups_of, has_element, has_model}
 use Rattle.tree_commit.specs.Marks.{starts, ends, is_started, is_ended, is_running, is_ready, is_lost, finishing_models, lost_models, start_mark, group_marks, finish_marks, start_marks, marks_of_tick, marks_of_activation}
-use Rattle.run_laws.specs.Laws.{RunningIsActive}
+use Rattle.run_laws.specs.ActiveCommit.{RunningIsActive}
 use Rattle.tree_commit.specs.Scripts.{ScriptLists}
 use Rattle.tree_commit.specs.Runs.{Lanes, CompositorLane, beginning, after_letter, after, after_activation, compositor_step, compositor_makes, compositor_takes}
 use Rattle.run_laws.proofs.NumberLemmas.{both_hold}

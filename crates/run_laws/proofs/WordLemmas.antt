@@ -7,7 +7,7 @@ use Rattle.anim_names.specs.declared.lane.Lane.TheVariants.{Main, Compositor}
 use Rattle.tree_commit.specs.declared.runs.compositor_step.CompositorStep.{CompositorStep}
 use Rattle.tree_commit.specs.declared.runs.compositor_step.CompositorStep.TheVariants.{Pull, Activate, Tick}
 use Rattle.anim_names.specs.Lists.{BeginsWith}
-use Rattle.run_laws.specs.Laws.{MarksOnlyGrow}
+use Rattle.run_laws.specs.Growth.{MarksOnlyGrow}
 use Rattle.tree_commit.specs.Marks.{marks_of_tick, marks_of_activation}
 use Rattle.tree_commit.specs.Trees.{Committed}
 use Rattle.tree_commit.specs.Runs.{Lanes, CompositorLane, after_letter, after, after_activation, compositor_step, compositor_makes, compositor_takes}

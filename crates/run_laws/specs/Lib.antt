@@ -1,1 +1,11 @@
-pub mod Laws
+pub mod ActiveCommit
+pub mod Ends
+pub mod Follows
+pub mod Groups
+pub mod Growth
+pub mod Hearing
+pub mod MainTree
+pub mod Numbers
+pub mod Shown
+pub mod Steps
+pub mod Words

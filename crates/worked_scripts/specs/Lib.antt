@@ -1,9 +1,12 @@
 pub mod AbortedForGood
+pub mod Crowds
 pub mod DroppedModel
+pub mod DroppedWithElement
 pub mod EarlyPull
 pub mod FadeIn
 pub mod FillBelow
 pub mod Generated
+pub mod HalfAGroup
 pub mod IdleSteps
 pub mod InterleavedGroups
 pub mod LateElement

@@ -30,6 +30,11 @@ abbrev pub model_on : ℕ → ℕ → ℕ → ℕ → PropertyCurve → StepOfMa
 model_on id group element timeline curve =
     added (record (model_of element id group (runs 1000 1000 Neither) curve) { timeline = timeline })
 
+-- the same on timeline 1, with a given start
+abbrev pub model_from : ℕ → ℕ → ℕ → ℕ → PropertyCurve → StepOfMain
+model_from id group element start curve =
+    added (record (model_of element id group (runs 1000 1000 Neither) curve) { start = Some start })
+
 abbrev pub steps : List StepOfMain
 steps =
     element 1 1000000
@@ -43,7 +48,11 @@ steps =
     ∷ model_on 1 2 1 1 fade
     ∷ model_on 2 1 1 1 fade
     ∷ model_on 2 1 2 1 move
+    ∷ model_from 2 1 1 500 move
     ∷ EditStep (RemoveModel 2)
+    ∷ EditStep (RemoveModel 1)
+    ∷ model_on 1 1 1 1 move
+    ∷ model_on 2 1 1 1 fade
     ∷ CommitStep
     ∷ model_on 2 1 1 1 move
     ∷ map (λ id. EditStep (AddTimeline id 0)) (range_with_len 2 64)
@@ -61,6 +70,10 @@ reasons =
     ∷ Some ModelIdUsed
     ∷ Some GroupMixed
     ∷ Some GroupMixed
+    ∷ Some GroupMixed
     ∷ Some ModelUnknown
+    ∷ None
+    ∷ Some ModelIdUsed
+    ∷ Some GroupMixed
     ∷ Some GroupClosed
     ∷ (replicate 63 None ++ Some (Limit Timelines) ∷ [])

@@ -27,3 +27,9 @@ pub const HELD: u32 = 500_000;
 
 /// The model that was aborted and stays in main's tree, since its policy drops finished ones alone.
 pub const KEPT_AFTER_ITS_ABORT: u32 = 5;
+
+/// The tick in which a group finishes that blocked with a model which was aborted before.
+pub const BLOCKED_UNTIL: u64 = 3_000;
+
+/// The tick in which a model starts that the pending commit has dropped with its element.
+pub const STARTED_WHILE_DROPPED: u64 = 1_000;

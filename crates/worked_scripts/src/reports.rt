@@ -6,10 +6,12 @@ ghost use Rattle.tree_commit.specs.Runs.{report_of};
 ghost use Rattle.tree_commit.specs.Scripts.{IsWellFormed};
 ghost use Rattle.worked_scripts.specs.AbortedForGood as aborted_for_good;
 ghost use Rattle.worked_scripts.specs.DroppedModel as dropped_model;
+ghost use Rattle.worked_scripts.specs.DroppedWithElement as dropped_with_element;
 ghost use Rattle.worked_scripts.specs.EarlyPull as early_pull;
 ghost use Rattle.worked_scripts.specs.FadeIn as fade_in;
 ghost use Rattle.worked_scripts.specs.FillBelow as fill_below;
 ghost use Rattle.worked_scripts.specs.Generated as generated;
+ghost use Rattle.worked_scripts.specs.HalfAGroup as half_a_group;
 ghost use Rattle.worked_scripts.specs.IdleSteps as idle_steps;
 ghost use Rattle.worked_scripts.specs.InterleavedGroups as interleaved_groups;
 ghost use Rattle.worked_scripts.specs.LateElement as late_element;
@@ -49,6 +51,18 @@ pub fn lost_element()
 pub fn dropped_model()
     ensures well_formed { IsWellFormed dropped_model.script }
     ensures report { report_of dropped_model.script dropped_model.script.word ≡ dropped_model.report }
+{}
+
+/// A model starts that the pending commit has dropped with its element, and is aborted.
+pub fn dropped_with_element()
+    ensures well_formed { IsWellFormed dropped_with_element.script }
+    ensures report { report_of dropped_with_element.script dropped_with_element.script.word ≡ dropped_with_element.report }
+{}
+
+/// A group goes on blocking with a model that was aborted.
+pub fn half_a_group()
+    ensures well_formed { IsWellFormed half_a_group.script }
+    ensures report { report_of half_a_group.script half_a_group.script.word ≡ half_a_group.report }
 {}
 
 /// A model waits for a whole group, and starts in the tick in which the group finishes.

@@ -1,0 +1,156 @@
+-- What more marks change of what is read off them.
+use Rattle.std.proofs.Common.{◌≡◌, ℕ, Bool, true, false, not, ◌&&◌, ◌||◌, cond, List, [], ◌∷◌, ◌++◌, map, filter, refl, sym, ap, ◌∙◌, subst, ◌⊎◌, inl, inr, append_assoc}
+use Rattle.std.specs.List.{list_any}
+use Rattle.std.proofs.lemmas.Bool.{false≢true, and_parts, and_from, or_parts, or_left, eqb-true, not-true, not_from_false}
+use Rattle.std.proofs.lemmas.List.{append-nil}
+use Rattle.std.proofs.lemmas.List.Folds.{list_any-append}
+use Rattle.anim_names.specs.declared.property.Property.{Property}
+use Rattle.keyframe_model.specs.Models.{Spec}
+use Rattle.tree_commit.specs.declared.runs.mark.Mark.{Mark}
+use Rattle.tree_commit.specs.declared.runs.mark.Mark.TheVariants.{Started, Finished, Aborted}
+use Rattle.tree_commit.specs.Marks.{model_of, starts, ends, starts_in, starts_on, is_ended, is_group_running, blocks}
+use Rattle.tree_commit.specs.Follows.{IsAmong}
+use Rattle.run_laws.specs.Ends.{may_follow, is_finished, is_group_finished}
+use Rattle.run_laws.proofs.Among.{among-append_cases, among-filter, any-among, any-cases, any-none}
+use Rattle.run_laws.proofs.Lines.{AreApart}
+
+-- ---- tests over more marks
+
+pub any-more : {A : Type 0} (p : A → Bool) (xs ys : List A) → list_any p xs ≡ true → list_any p (xs ++ ys) ≡ true
+any-more p xs ys h = list_any-append p xs ys ∙ or_left _ _ h
+
+pub any-fewer : {A : Type 0} (p : A → Bool) (xs ys : List A) → list_any p (xs ++ ys) ≡ false → list_any p xs ≡ false
+any-fewer p xs ys h = (or_parts (list_any p xs) (list_any p ys) (sym (list_any-append p xs ys) ∙ h)).0
+
+or-nothing : (a b : Bool) → b ≡ false → (a || b) ≡ a
+or-nothing true b h = refl
+or-nothing false b h = h
+
+-- where none of the new ones passes, what was found before is all
+pub any-same : {A : Type 0} (p : A → Bool) (xs ys : List A) → list_any p ys ≡ false → list_any p (xs ++ ys) ≡ list_any p xs
+any-same p xs ys h = list_any-append p xs ys ∙ or-nothing (list_any p xs) (list_any p ys) h
+
+pub apart-filter : (p : Spec → Bool) (models : List Spec) → AreApart models → AreApart (filter p models)
+apart-filter p [] h = tt
+apart-filter p (model ∷ models) h = go (p model) (apart-filter p models h.1)
+  where
+    go : (kept : Bool) → AreApart (filter p models) → AreApart (cond kept (model ∷ filter p models) (filter p models))
+    go true rest = (λ other a. h.0 other (among-filter p other models a).0, rest)
+    go false rest = rest
+
+-- ---- a mark of another model
+
+pub starts-about : (id : ℕ) (mark : Mark) → starts id mark ≡ true → id ≡ model_of mark
+starts-about id (Started model group element property at start) h = eqb-true id model h
+starts-about id (Finished model at) h = absurd (false≢true h)
+starts-about id (Aborted model commit) h = absurd (false≢true h)
+
+pub ends-about : (id : ℕ) (mark : Mark) → ends id mark ≡ true → id ≡ model_of mark
+ends-about id (Started model group element property at start) h = absurd (false≢true h)
+ends-about id (Finished model at) h = eqb-true id model h
+ends-about id (Aborted model commit) h = eqb-true id model h
+
+no-start : (id : ℕ) (mark : Mark) → (id ≡ model_of mark → ⊥) → list_any (starts id) (mark ∷ []) ≡ false
+no-start id mark other = any-none (starts id) (mark ∷ []) go
+  where
+    go : (x : Mark) → IsAmong x (mark ∷ []) → starts id x ≡ true → ⊥
+    go x (inl e) h = other (starts-about id mark (ap (starts id) (sym e) ∙ h))
+    go x (inr a) h = absurd a
+
+no-end : (id : ℕ) (mark : Mark) → (id ≡ model_of mark → ⊥) → list_any (ends id) (mark ∷ []) ≡ false
+no-end id mark other = any-none (ends id) (mark ∷ []) go
+  where
+    go : (x : Mark) → IsAmong x (mark ∷ []) → ends id x ≡ true → ⊥
+    go x (inl e) h = other (ends-about id mark (ap (ends id) (sym e) ∙ h))
+    go x (inr a) h = absurd a
+
+follow-other : (before : List Mark) (new mark : Mark) → (model_of mark ≡ model_of new → ⊥) → may_follow before mark ≡ true → may_follow (before ++ new ∷ []) mark ≡ true
+follow-other before new (Started model group element property at start) other h =
+    rw (any-same (starts model) before (new ∷ []) (no-start model new other), any-same (ends model) before (new ∷ []) (no-end model new other)) h
+follow-other before new (Finished model at) other h =
+    rw (any-same (starts model) before (new ∷ []) (no-start model new other), any-same (ends model) before (new ∷ []) (no-end model new other)) h
+follow-other before new (Aborted model commit) other h =
+    rw (any-same (ends model) before (new ∷ []) (no-end model new other)) h
+
+-- ---- marks in order
+
+-- each mark may follow those before it
+abbrev pub AreInOrder : List Mark → List Mark → Type 0
+AreInOrder before [] = Unit {0}
+AreInOrder before (mark ∷ marks) = (may_follow before mark ≡ true) × AreInOrder (before ++ mark ∷ []) marks
+
+pub order-append : (before xs ys : List Mark) → AreInOrder before xs → AreInOrder (before ++ xs) ys → AreInOrder before (xs ++ ys)
+order-append before [] ys h i = subst (λ l. AreInOrder l ys) (append-nil before) i
+order-append before (x ∷ xs) ys h i = (h.0, order-append (before ++ x ∷ []) xs ys h.1 (subst (λ l. AreInOrder l ys) (sym (append_assoc before (x ∷ []) xs)) i))
+
+-- marks of different models, each of which may follow what was before, are in order
+pub order-apart : (before : List Mark) (f : Spec → Mark) → ((model : Spec) → model_of (f model) ≡ model.id) → (models : List Spec) → AreApart models → ((model : Spec) → IsAmong model models → may_follow before (f model) ≡ true) → AreInOrder before (map f models)
+order-apart before f about [] apart allowed = tt
+order-apart before f about (model ∷ models) apart allowed = (
+  allowed model (inl refl),
+  order-apart (before ++ f model ∷ []) f about models apart.1
+      (λ other a. follow-other before (f model) (f other) (λ same. apart.0 other a (sym (about model) ∙ sym same ∙ about other)) (allowed other (inr a))),
+)
+
+-- ---- what a group does
+
+pub running-mark : (marks : List Mark) (group : ℕ) → is_group_running marks group ≡ true → (mark : Mark) × IsAmong mark marks × (starts_in group mark ≡ true) × (is_ended marks (model_of mark) ≡ false)
+running-mark marks group h =
+    let found = any-cases (λ mark. starts_in group mark && not (is_ended marks (model_of mark))) marks h in
+    let both = and_parts (starts_in group found.0) _ found.2 in
+    (found.0, found.1, both.0, not-true _ both.1)
+
+pub running-from : (marks : List Mark) (group : ℕ) (mark : Mark) → IsAmong mark marks → starts_in group mark ≡ true → is_ended marks (model_of mark) ≡ false → is_group_running marks group ≡ true
+running-from marks group mark a starts unended =
+    any-among (λ mark. starts_in group mark && not (is_ended marks (model_of mark))) mark marks a (and_from _ _ starts (not_from_false _ unended))
+
+pub blocks-mark : (marks : List Mark) (group element : ℕ) (property : Property) → blocks marks group element property ≡ true → (is_group_running marks group ≡ true) × ((mark : Mark) × IsAmong mark marks × (starts_in group mark ≡ true) × (starts_on element property mark ≡ true))
+blocks-mark marks group element property h =
+    let both = and_parts (is_group_running marks group) _ h in
+    let found = any-cases (λ mark. starts_in group mark && starts_on element property mark) marks both.1 in
+    let parts = and_parts (starts_in group found.0) _ found.2 in
+    (both.0, (found.0, found.1, parts.0, parts.1))
+
+pub blocks-from : (marks : List Mark) (group element : ℕ) (property : Property) (mark : Mark) → is_group_running marks group ≡ true → IsAmong mark marks → starts_in group mark ≡ true → starts_on element property mark ≡ true → blocks marks group element property ≡ true
+blocks-from marks group element property mark running a starts on =
+    and_from _ _ running (any-among (λ mark. starts_in group mark && starts_on element property mark) mark marks a (and_from _ _ starts on))
+
+pub finished-mark : (marks : List Mark) (group : ℕ) → is_group_finished marks group ≡ true → (mark : Mark) × IsAmong mark marks × (starts_in group mark ≡ true) × (is_finished marks (model_of mark) ≡ true)
+finished-mark marks group h =
+    let found = any-cases (λ mark. starts_in group mark && is_finished marks (model_of mark)) marks h in
+    let both = and_parts (starts_in group found.0) _ found.2 in
+    (found.0, found.1, both.0, both.1)
+
+pub finished-from : (marks : List Mark) (group : ℕ) (mark : Mark) → IsAmong mark marks → starts_in group mark ≡ true → is_finished marks (model_of mark) ≡ true → is_group_finished marks group ≡ true
+finished-from marks group mark a starts finished =
+    any-among (λ mark. starts_in group mark && is_finished marks (model_of mark)) mark marks a (and_from _ _ starts finished)
+
+-- the new marks start nothing in the group
+abbrev pub NoStartIn : ℕ → List Mark → Type 0
+NoStartIn group new = (mark : Mark) → IsAmong mark new → starts_in group mark ≡ true → ⊥
+
+-- a mark that starts in the group is then one of those before
+pub start-before : (group : ℕ) (marks new : List Mark) (mark : Mark) → NoStartIn group new → IsAmong mark (marks ++ new) → starts_in group mark ≡ true → IsAmong mark marks
+start-before group marks new mark none a starts = go (among-append_cases mark marks new a)
+  where
+    go : IsAmong mark marks ⊎ IsAmong mark new → IsAmong mark marks
+    go (inl h) = h
+    go (inr h) = absurd (none mark h starts)
+
+pub running-before : (marks new : List Mark) (group : ℕ) → NoStartIn group new → is_group_running (marks ++ new) group ≡ true → is_group_running marks group ≡ true
+running-before marks new group none h =
+    let found = running-mark (marks ++ new) group h in
+    running-from marks group found.0 (start-before group marks new found.0 none found.1 found.2) found.2 (any-fewer (ends (model_of found.0)) marks new found.3)
+
+pub blocks-before : (marks new : List Mark) (group element : ℕ) (property : Property) → NoStartIn group new → blocks (marks ++ new) group element property ≡ true → blocks marks group element property ≡ true
+blocks-before marks new group element property none h =
+    let found = blocks-mark (marks ++ new) group element property h in
+    blocks-from marks group element property found.1.0 (running-before marks new group none found.0) (start-before group marks new found.1.0 none found.1.1 found.1.2) found.1.2 found.1.3
+
+-- a group that does not run does not run later, where nothing of it starts
+pub still-idle : (marks new : List Mark) (group : ℕ) → NoStartIn group new → is_group_running marks group ≡ false → is_group_running (marks ++ new) group ≡ false
+still-idle marks new group none h = go (is_group_running (marks ++ new) group) refl
+  where
+    go : (runs : Bool) → is_group_running (marks ++ new) group ≡ runs → runs ≡ false
+    go true e = absurd (false≢true (sym h ∙ running-before marks new group none e))
+    go false e = refl

@@ -1,5 +1,0 @@
-use Rattle.run_laws.proofs.HearingLemmas.{counts_add_up}
-use Rattle.run_laws.proofs.laws.heard_counts_add_up.Goals as goal
-
-pub returns : goal.returns
-returns c = counts_add_up

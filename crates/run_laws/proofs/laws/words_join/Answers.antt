@@ -1,5 +1,0 @@
-use Rattle.run_laws.proofs.WordLemmas.{after-append}
-use Rattle.run_laws.proofs.laws.words_join.Goals as goal
-
-pub returns : goal.returns
-returns c = after-append
