@@ -5,7 +5,8 @@
 
 ghost use Rattle.std.specs.Prelude.{◌≡◌, ◌+◌, ◌≤◌, ◌^◌, ◌++◌, ◌∷◌, [], length, map, replicate, unsigned_abs, All, IfOk, OnOk, Some, None};
 ghost use Rattle.anim_names.specs.declared.lane.Lane.TheVariants.{Main, Compositor};
-ghost use Rattle.animation_script.specs.Animations.{latest, model_of, most_ticks, script_of, word_of};
+ghost use Rattle.animation_script.specs.Animations.{model_of, most_ticks, script_of, word_of};
+ghost use Rattle.anim_timeline.specs.declared.TheConstants.{LAST_TIME};
 ghost use Rattle.keyframe_model.specs.Models.{model_value};
 ghost use Rattle.keyframe_model.specs.Views.{value_of};
 ghost use Rattle.tree_commit.specs.Runs.{report_of};
@@ -67,15 +68,15 @@ fn push_letters(word: &mut Vec<Lane>, lane: Lane, count: usize) -> Result<(), Al
 // The times of the ticks, which are all within their range.
 fn ticks_of(script: &AnimationScript) -> &[u64]
     ensures value { result.now ≡ script.now.ticks }
-    ensures within { All (λ time. time ≤ latest) result.now }
+    ensures within { All (λ time. time ≤ LAST_TIME) result.now }
 {
     script.ticks()
 }
 
 // The model's local time at a tick.
 fn local_time(start: u64, time: u64) -> i64
-    requires start_within { start ≤ latest }
-    requires time_within { time ≤ latest }
+    requires start_within { start ≤ LAST_TIME }
+    requires time_within { time ≤ LAST_TIME }
     ensures value { result ≡ since start time }
     ensures within { unsigned_abs result ≤ 2 ^ 52 }
 {
@@ -102,9 +103,9 @@ fn frames_of<E: EasingFunction>(
 
 // The time of the first tick, at which the model starts.
 fn first_of(ticks: &[u64]) -> u64
-    requires { All (λ time. time ≤ latest) ticks.now }
+    requires { All (λ time. time ≤ LAST_TIME) ticks.now }
     ensures value { result ≡ first_of ticks.now }
-    ensures within { result ≤ latest }
+    ensures within { result ≤ LAST_TIME }
 {
     ticks.first().copied().unwrap_or(0)
 }
@@ -116,8 +117,8 @@ fn frame_of<E: EasingFunction>(
     time: u64,
     evaluator: &Evaluator<E>,
 ) -> Result<Frame, AllocError>
-    requires start_within { start ≤ latest }
-    requires time_within { time ≤ latest }
+    requires start_within { start ≤ LAST_TIME }
+    requires time_within { time ≤ LAST_TIME }
     ensures { IfOk result (λ frame. frame ≡ frame_of script.now start time) }
 {
     let row = row_at(script, local_time(start, time), evaluator)?;
@@ -195,8 +196,8 @@ fn events_of(alloc: Global, script: &AnimationScript) -> Result<Vec<AnimEvent>, 
 
 // The first of the later ticks at which the model is done.
 fn finish_of(script: &AnimationScript, start: u64, later: &[u64]) -> Option<u64>
-    requires start_within { start ≤ latest }
-    requires later_within { All (λ time. time ≤ latest) later.now }
+    requires start_within { start ≤ LAST_TIME }
+    requires later_within { All (λ time. time ≤ LAST_TIME) later.now }
     ensures { result ≡ finish_of script.now start later.now }
 {
     for time in later {
