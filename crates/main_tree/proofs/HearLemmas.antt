@@ -60,7 +60,7 @@ left_by event (Some model) tree None is own = cc
 left_by event (Some model) tree (Some policy) is own =
     let same : model.policy ≡ policy = cc in (
       subst (λ p. (if is_retire (verdict_on model.policy event) then without_model tree model.id else tree) ≡ (if is_retire (verdict_on p event) then without_model tree (model_of_event event) else tree)) same
-      (ap (λ id. if is_retire (verdict_on model.policy event) then without_model tree id else tree) (sym (own model refl))),
+          (ap (λ id. if is_retire (verdict_on model.policy event) then without_model tree id else tree) (sym (own model refl))),
       ap (λ p. is_retire (verdict_on p event)) same,
     )
 
