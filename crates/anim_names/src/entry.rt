@@ -7,9 +7,9 @@ pub enum EntryKind {
     Publish { number: u32 },
     /// The compositor took the commit of this number from the mailbox, or found nothing to take.
     Pull { number: Option<u32> },
-    /// The compositor sent so many events.
+    /// The compositor sent this many events.
     Send { count: u32 },
-    /// Main took so many events.
+    /// Main took this many events.
     Drain { count: u32 },
 }
 

@@ -18,7 +18,7 @@ use Rattle.commit_lock.proofs.Lanes.{one_of_two}
 use Rattle.commit_lock.proofs.Keeps.{put, put-same, put-before, part_of-own, part_of-other, fits_alone, knows}
 use Rattle.commit_lock.proofs.Turns.{free_is}
 
--- what stands at a table_seat of a list with one more at its end
+-- what is at an index of a list with one more at its end
 at_end : {A : Type 0} (l : List A) (a b : A) (j : ℕ) → get_elem? (l ++ a ∷ []) j ≡ some b → (get_elem? l j ≡ some b) ⊎ ((j ≡ length l) × (a ≡ b))
 at_end [] a b zero e = inr (refl, some-injective a b e)
 at_end [] a b (suc j) e = absurd (some-ne-none b (sym e))

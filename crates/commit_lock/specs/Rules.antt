@@ -1,4 +1,4 @@
--- The rule of the lock: what holds of its two words, its slot and what all seats know, between any two atomic steps.
+-- The rule of the lock: what is true of its two numbers, its slot and what all seats know, between any two atomic steps.
 use Rattle.std.specs.Prelude.{◌≡◌, ◌≢◌, ℕ, List, [], ◌∷◌, length, Option, Some, if◌then◌else◌}
 use mathlib.Core.Option.{Option as IfHome, some, none}
 use lib.ListN.{get_elem?}

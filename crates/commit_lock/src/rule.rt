@@ -5,7 +5,7 @@ use crate::view::View;
 use atomic_table::{Join, Play, Split, TableRule};
 use std::snapshot::Snapshot;
 
-/// What holds of the table between any two steps. Its key is the value with which the lock was made, for the subject.
+/// What is true of the table between any two steps. Its key is the value with which the lock was made, for the subject.
 pub struct LockRule;
 
 impl<V: Journaled> TableRule<Option<V>, View, Snapshot<V>> for LockRule {

@@ -7,7 +7,7 @@ use Rattle.easing_fixed.specs.declared.TheConstants.{ONE}
 abbrev pub stride : ℕ
 stride = 65536
 
--- so many of the table's numbers, from this one on
+-- this many of the table's numbers, from this one on
 abbrev pub starts_from : ℕ → ℕ → ℕ → ℕ → List ℕ
 starts_from x1 x2 interval zero = []
 starts_from x1 x2 interval (suc count) = across ONE x1 x2 (interval * stride) ∷ starts_from x1 x2 (interval + 1) count

@@ -24,13 +24,13 @@ pub use fault::EasingFault;
 pub use position::StepPosition;
 pub use step::StepShape;
 
-/// What stands for 1, in a progress and in what an easing gives: 2^20.
+/// The number for 1, in a progress and in what an easing gives: 2^20.
 pub const ONE: u32 = 1 << 20;
 
 /// The most steps of a step function.
 pub const MOST_STEPS: u32 = 1_000_000;
 
-/// What stands for 1 in the numbers of a control point, which are in millionths. Every curve ends at (END, END), and
+/// The number for 1 in the numbers of a control point, which are in millionths. Every curve ends at (END, END), and
 /// no control point is farther across.
 pub const END: u32 = 1_000_000;
 

@@ -55,7 +55,7 @@ fn interval_of(starts: &[u128; START_COUNT], bound: u128) -> usize
     later_half(starts, of_eight, 1, bound)
 }
 
-// Where of two neighbours, each so many intervals wide, the one begins in which the curve passes the bound.
+// Of two neighbours of this width in intervals, where the one begins in which the curve passes the bound.
 fn later_half(starts: &[u128; START_COUNT], low: usize, width: usize, bound: u128) -> usize
     requires fits { low + width + width ≤ 16 }
     requires begun { slice_index starts.now low ≤ bound }

@@ -46,7 +46,7 @@ pub record Exchange : Type 0 where
   pub mailbox : Option Committed
   pub room : ℕ
 
--- What holds of every board: no number is pulled that was not published, and the mailbox is empty exactly where the
+-- What is true of every board: no number is pulled that was not published, and the mailbox is empty exactly where the
 -- newest is pulled already.
 pub record IsExchange (board : Exchange) : Type 0 where
   pub pulled_within : last_pulled board.entries ≤ published board.entries
@@ -79,7 +79,7 @@ pull_entry entries upto pending = record { lane = Compositor; upto = upto; kind 
 
 -- ---- the word of a journal
 
--- the word with letters of the lane behind it, until the lane has so many
+-- the word with letters of the lane behind it, until the lane has this many
 abbrev pub filled : Lane → ℕ → List Lane → List Lane
 filled lane upto word = word ++ replicate (upto - letters_of lane word) lane
 
@@ -87,7 +87,7 @@ filled lane upto word = word ++ replicate (upto - letters_of lane word) lane
 abbrev pub word_so_far : List Entry → List Lane
 word_so_far entries = fold (λ word entry. filled entry.lane entry.upto word) [] entries
 
--- The word of a journal, for lanes of so many steps: behind the word so far come the rest of main's letters and then
+-- The word of a journal, for lanes of these numbers of steps: behind the word so far come the rest of main's letters and then
 -- the rest of the compositor's.
 unfoldable pub word_of_journal : List Entry → ℕ → ℕ → List Lane
 word_of_journal entries main compositor = filled Compositor compositor (filled Main main (word_so_far entries))

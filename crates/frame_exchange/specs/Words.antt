@@ -5,7 +5,7 @@ use Rattle.anim_names.specs.declared.entry.Entry.{Entry}
 use Rattle.anim_names.specs.declared.lane.Lane.{Lane}
 use Rattle.anim_names.specs.declared.lane.Lane.TheVariants.{Main, Compositor}
 
--- how many steps the lane has, of two lanes of so many steps
+-- how many steps the lane has, of two lanes of these numbers of steps
 abbrev pub steps_of : Lane → ℕ → ℕ → ℕ
 steps_of Main main compositor = main
 steps_of Compositor main compositor = compositor

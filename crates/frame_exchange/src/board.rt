@@ -65,7 +65,7 @@ impl Board {
         }
     }
 
-    /// Makes room for so many further entries. Where there is no memory, all stays as it was.
+    /// Makes room for this many further entries. Where there is no memory, all stays as it was.
     pub fn reserve(&mut self, entries: u32) -> Result<(), AllocError>
         ensures room { OnOk result (entries ≤ self.new.room) }
         ensures kept { self.old.room ≤ self.new.room }
@@ -158,7 +158,7 @@ impl Board {
         self.entries[i]
     }
 
-    /// The word of the journal, where main has so many steps and the compositor so many.
+    /// The word of the journal, for lanes with these numbers of steps.
     #[tactic(auto, unfolding(crate::specs::Journals::word_of_journal))]
     pub fn word(&self, alloc: Global, main: u32, compositor: u32) -> Result<Vec<Lane>, AllocError>
         ensures { IfOk result (λ word. word.items ≡ word_of_journal self.now.entries main compositor) }

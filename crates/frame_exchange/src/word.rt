@@ -41,7 +41,7 @@ impl Word {
         }
     }
 
-    // Puts letters of the lane behind the word, until the lane has so many.
+    // Puts letters of the lane behind the word, until the lane has this many.
     pub(crate) fn fill(&mut self, lane: Lane, upto: u32) -> Result<(), AllocError>
         ensures { OnOk result (self.new ≡ filled lane upto self.old) }
     {

@@ -14,7 +14,7 @@ use Rattle.main_tree.specs.EditedTrees.{EditedTree, GoesWithBook, after_edit, fi
 
 -- ---- lists
 
--- what stands among some stands among more
+-- what is among some is among more
 list_any-push : {A : Type 0} (test : A → Bool) (xs : List A) (x : A) → list_any test xs ≡ true → list_any test (xs ++ x ∷ []) ≡ true
 list_any-push test xs x h = list_any-append test xs (x ∷ []) ∙ ap (λ b. b || list_any test (x ∷ [])) h
 
@@ -38,7 +38,7 @@ map-without id_of id (x ∷ xs) =
     ≡ (if b then map id_of xs else id_of x ∷ without (λ other. id == other) (map id_of xs)))
     [ true ↦ refl | false ↦ ap (λ ids. id_of x ∷ ids) (map-without id_of id xs) ]
 
--- what holds of all holds of those that stay
+-- what is true of all is true of those that are left
 All-without : {A : Type 0} (P : A → Type 0) (test : A → Bool) (xs : List A) → All P xs → All P (without test xs)
 All-without P test [] h = h
 All-without P test (x ∷ xs) h =

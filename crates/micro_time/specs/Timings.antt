@@ -82,7 +82,7 @@ IsTiming t = refusal t ≡ None
 abbrev pub elapsed : TimingParts → ℤ → ℤ
 elapsed t local = local +ℤ t.offset
 
--- what length of iterations so much time covers at the timing's rate
+-- the length of iterations that a time covers at the timing's rate
 abbrev pub covered : TimingParts → ℤ → ℕ
 covered t local = unsigned_abs (elapsed t local) * unsigned_abs t.rate
 

@@ -199,7 +199,7 @@ impl Timing {
         local + self.offset
     }
 
-    // What length of iterations so much time covers at this rate. Lengths are in thousandths of a microsecond.
+    // The length of iterations that a time covers at this rate. Lengths are in thousandths of a microsecond.
     fn covered(&self, local: i64) -> u128
         requires { unsigned_abs local ≤ LARGEST_LOCAL }
         ensures value { result ≡ covered self.now local }

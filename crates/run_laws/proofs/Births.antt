@@ -35,7 +35,7 @@ births_of commits (AddTimeline id origin) behind = behind
 births_of commits (AddModel model) behind = birth model commits ∷ behind
 births_of commits (RemoveModel id) behind = behind
 
--- the births of these steps, where so many commits came before them
+-- the births of these steps, where this many commits came before them
 abbrev pub births : ℕ → List StepOfMain → List Birth
 births commits [] = []
 births commits (EditStep change ∷ steps) = births_of commits change (births commits steps)

@@ -11,7 +11,7 @@ use Rattle.run_laws.proofs.Births.{Birth, birth}
 
 -- ---- commits of one line
 
--- the model was added before so many commits
+-- the model was added before this many commits
 abbrev pub BornBefore : List Birth → ℕ → Spec → Type 0
 BornBefore born number model = (before : ℕ) × IsAmong (birth model before) born × (before < number)
 

@@ -25,7 +25,7 @@ IsAbout model (Started id group element property at start) =
 IsAbout model (Finished id at) = id ≡ model.id
 IsAbout model (Aborted id commit) = id ≡ model.id
 
--- the mark is of a model that was added before so many commits
+-- the mark is of a model that was added before this many commits
 pub record IsOfBirth (born : List Birth) (number : ℕ) (mark : Mark) : Type 0 where
   pub model : Spec
   pub before : ℕ

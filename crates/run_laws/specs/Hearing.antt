@@ -27,7 +27,7 @@ batches lanes (letter ∷ word) = batch_of_letter lanes letter ++ batches (after
 abbrev pub HeardOnce : ScriptLists → List Lane → Type 0
 HeardOnce script word = flat_map (λ batch. batch) (batches (beginning script) word) ≡ (report_of script word).events
 
--- how many events are heard after each batch, where so many were heard before
+-- how many events are heard after each batch, where this many were heard before
 abbrev pub totals : ℕ → List (List AnimEvent) → List ℕ
 totals before [] = []
 totals before (batch ∷ batches) = (before + length batch) ∷ totals (before + length batch) batches

@@ -19,7 +19,7 @@ CommitNumbersNeverFall report = IsTrue (never_fall_from 0 (map (λ frame. frame.
 
 -- ---- where a commit has been
 
--- what stands after the first steps of a run
+-- the state after the first steps of a run
 abbrev pub lanes_at : ScriptLists → List Lane → Lanes
 lanes_at script front = after (beginning script) front
 

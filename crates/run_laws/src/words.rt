@@ -6,7 +6,7 @@ ghost use Rattle.run_laws.specs.Words.{IsComplete};
 ghost use Rattle.tree_commit.specs.Runs.{Lanes, after};
 ghost use Rattle.tree_commit.specs.Scripts.{IsWordOf, ScriptLists};
 
-/// What stands after two words is what stands after the second from where the first has led.
+/// The state after two words is the state after the second from where the first has led.
 pub fn words_join()
     ensures { (lanes : Lanes) (first second : List Lane) → after lanes (first ++ second) ≡ after (after lanes first) second }
 {}

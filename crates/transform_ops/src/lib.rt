@@ -17,7 +17,7 @@ pub use op::TransformOp;
 /// The most operations of a list.
 pub const MOST_OPERATIONS: usize = 8;
 
-/// What stands for 1 in a scale, in millionths: it leaves the size as it is.
+/// The number for 1 in a scale, in millionths: it leaves the size as it is.
 pub const SAME_SIZE: i64 = 1_000_000;
 
 #[cfg(test)]

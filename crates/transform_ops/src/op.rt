@@ -74,7 +74,7 @@ impl TransformOp {
         }
     }
 
-    /// The operation that lies so much of the way to another one, number by number. A turn keeps its axis. Two that
+    /// The operation that lies at a progress of the way to another one, number by number. A turn keeps its axis. Two that
     /// don't match are never blended: that gives the first one.
     pub fn blend(self, to: TransformOp, progress: i64) -> TransformOp
         requires from_within { IsOperation self }

@@ -120,7 +120,7 @@ unfolding edit_refusal
 edit_refusal-parts book model id group element timeline start property parts =
     rw (← parts.id_is, ← parts.group_is, ← parts.element_is, ← parts.timeline_is, ← parts.start_is, ← parts.property_is)
 
--- what holds at Ok, of a call that answers Ok
+-- what a call promises at Ok, where it answers Ok
 pub from_ok : {T E P : Type 0} (r : Result T E) → IsOk r → OnOk r P → P
 from_ok (Ok x) ok h = h
 from_ok (Err e) ok h = absurd (search rules)

@@ -1,4 +1,4 @@
--- A run: what stands in each lane, what each step makes of it, and the report of a script for any word of its lanes.
+-- A run: the state of each lane, what each step makes of it, and the report of a script for any word of its lanes.
 use Rattle.std.specs.Prelude.{ℕ, nat_lt, ◌&&◌, is_none, if◌then◌else◌, List, [], ◌∷◌, ◌++◌, length, drop, map, fold, Option, Some, None}
 use Rattle.anim_names.specs.declared.event.AnimEvent.{AnimEvent}
 use Rattle.anim_names.specs.declared.event.AnimEvent.TheVariants.{Started, Finished, Aborted}
@@ -35,7 +35,7 @@ tree_after_hearing tree event = tree_after_verdict tree event (model_with tree (
 
 -- ---- main's lane
 
--- what stands in main's lane: the steps that are left, the tree, the commits in order, the events heard in order, and
+-- the state of main's lane: the steps that are left, the tree, the commits in order, the events heard in order, and
 -- how many they were after each drain
 pub record MainLane : Type 0 where
   pub left : List StepOfMain
@@ -79,7 +79,7 @@ main_step marks lane = main_takes marks lane.left lane
 
 -- ---- the compositor's lane
 
--- what stands in the compositor's lane: the steps that are left, the number of the commit pulled last, the pending
+-- the state of the compositor's lane: the steps that are left, the number of the commit pulled last, the pending
 -- commit if there is one, the active commit, the marks in order, and the frames in order
 pub record CompositorLane : Type 0 where
   pub left : List CompositorStep
@@ -138,7 +138,7 @@ pub record Lanes : Type 0 where
   pub main : MainLane
   pub compositor : CompositorLane
 
--- what stands before the first step
+-- the state before the first step
 abbrev pub beginning : ScriptLists → Lanes
 beginning script = record {
   main = record { left = script.main; tree = empty_tree; commits = []; heard = []; counts = [] };
@@ -157,7 +157,7 @@ abbrev pub after_letter : Lanes → Lane → Lanes
 after_letter lanes Main = record lanes { main = main_step lanes.compositor.marks lanes.main }
 after_letter lanes Compositor = record lanes { compositor = compositor_step lanes.main.commits lanes.compositor }
 
--- what stands after a word, letter by letter
+-- the state after a word, letter by letter
 unfoldable pub after : Lanes → List Lane → Lanes
 after lanes word = fold after_letter lanes word
 
@@ -170,7 +170,7 @@ pub record ReportLists : Type 0 where
   pub events : List AnimEvent
   pub heard : List ℕ
 
--- the report of what stands after a whole word, when the closing drain has heard the rest
+-- the report of the state after a whole word, when the closing drain has heard the rest
 unfoldable pub closing_report : List Lane → Lanes → ReportLists
 closing_report word lanes = record {
   word = word;

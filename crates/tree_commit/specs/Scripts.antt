@@ -27,7 +27,7 @@ pub record ScriptLists : Type 0 where
 
 -- ---- words
 
--- a word of so many steps of main and so many of the compositor
+-- a word of these numbers of steps of main and of the compositor
 pub record IsWordOf (main compositor : ℕ) (word : List Lane) : Type 0 where
   pub of_main : letters_of Main word ≡ main
   pub of_compositor : letters_of Compositor word ≡ compositor

@@ -30,7 +30,7 @@ tree_of elements models timelines = record {
   timelines = map clock_of timelines;
 }
 
--- ---- what holds of them
+-- ---- what is true of them
 
 -- each model stands under its own id
 abbrev pub StandUnderOwnIds : List (ℕ × Arc Spec Global) → Type 0

@@ -102,7 +102,7 @@ impl Commit {
     pub fn element_count(&self) -> usize
         ensures count { result ≡ length self.now.tree.elements }
 
-        // What holds of every commit: no id stands twice.
+        // Of every commit: no two elements have one id.
         ensures differ { IsDistinct nat_eq (map (λ element. element.id) self.now.tree.elements) }
     {
         self.elements.len()
@@ -128,7 +128,7 @@ impl Commit {
     pub fn model_count(&self) -> usize
         ensures count { result ≡ length self.now.tree.models }
 
-        // What holds of every commit: no id stands twice, and the timeline of each model is there.
+        // Of every commit: no two models have one id, and the timeline of each model is there.
         ensures differ { IsDistinct nat_eq (map (λ model. model.id) self.now.tree.models) }
         ensures timelines_there { HasAllTimelines self.now.tree }
     {

@@ -4,7 +4,7 @@ use Rattle.std.specs.Prelude.{ℕ, ◌≤◌, ℤ, pos, negsuc, ◌+ℤ◌, ◌-
 use Rattle.value_blend.specs.declared.TheConstants.{ONE, LARGEST_NUMBER, FULL_OPACITY}
 use Rattle.value_blend.specs.Fixed.{floor_div, clamp_to, clamp_size}
 
--- the number that lies so much of the way from one number to another
+-- the number that lies at a progress of the way from one number to another
 abbrev pub part_way : ℤ → ℤ → ℤ → ℤ
 part_way from to progress = from +ℤ floor_div ((to -ℤ from) *ℤ progress) ONE
 
@@ -24,7 +24,7 @@ blend_number from to progress = clamp_size LARGEST_NUMBER (part_way from to prog
 abbrev pub IsOpacity : ℕ → Type 0
 IsOpacity n = n ≤ FULL_OPACITY
 
--- the opacity of so many millionths, where they may be one
+-- the opacity of this many millionths, where they may be one
 abbrev pub opacity_of : ℤ → Option ℕ
 opacity_of (pos n) = if nat_le n FULL_OPACITY then Some n else None
 opacity_of (negsuc n) = None

@@ -19,7 +19,7 @@ pub trait Blend {
 
     ghost alike: { Self → Self → Type 0 };
 
-    /// The value that lies so much of the way from one value to the other. The progress is in units of which
+    /// The value that lies at a progress of the way from one value to the other. The progress is in units of which
     /// [`crate::ONE`] is the whole way; below 0 and above it the blend goes on past its ends, as far as it may.
     fn blend(from: &Self, to: &Self, progress: i64) -> Result<Self, AllocError>
         requires { unsigned_abs progress ≤ LARGEST_PROGRESS }

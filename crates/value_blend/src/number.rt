@@ -10,7 +10,7 @@ use crate::{LARGEST_NUMBER, ONE};
 // The largest number of an operation.
 const LARGEST: i64 = LARGEST_NUMBER as i64;
 
-/// The number that lies so much of the way from one number to the other, rounded down, and brought within
+/// The number that lies at a progress of the way from one number to the other, rounded down, and brought within
 /// [`LARGEST_NUMBER`] in size. The progress is in units of which [`ONE`] is the whole way.
 pub fn blend_number(from: i64, to: i64, progress: i64) -> i64
     requires from_within { IsNumber from }

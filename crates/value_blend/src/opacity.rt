@@ -26,7 +26,7 @@ impl Model for Opacity {
 }
 
 impl Opacity {
-    /// The opacity of so many millionths. There is none exactly where they are below 0 or above
+    /// The opacity of this many millionths. There is none exactly where they are below 0 or above
     /// [`FULL_OPACITY`].
     pub fn new(millionths: i64) -> Option<Opacity>
         ensures { result ≡ opacity_of millionths }

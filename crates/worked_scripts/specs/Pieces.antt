@@ -56,7 +56,7 @@ added model = EditStep (AddModel model)
 abbrev pub model : ℕ → ℕ → TimingParts → PropertyCurve → StepOfMain
 model id group timing curve = added (model_of 1 id group timing curve)
 
--- so many thousandths of an iteration, forwards, from the start on
+-- this many thousandths of an iteration, forwards, from the start on
 abbrev pub runs : ℕ → ℕ → Fill → TimingParts
 runs duration iterations fill =
     timing_parts duration (pos 0) (Finite iterations) 0 Normal fill (pos 1000)

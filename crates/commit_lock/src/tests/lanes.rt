@@ -46,7 +46,7 @@ fn make_section<V: Notes, R: Wait>(
     }
 }
 
-// Makes so many sections, and between two of them leaves the processor to the other lane. It stops where memory runs
+// Makes this many sections, and between two of them leaves the processor to the other lane. It stops where memory runs
 // out.
 fn make_sections<V: Notes, R: Wait>(
     rt: &R,
@@ -100,7 +100,7 @@ fn meet_and_make_sections<V: Notes, R: Wait>(
     make_sections(rt, lock, seat, lane, count)
 }
 
-/// Both lanes make so many sections, each in a thread of its own.
+/// Both lanes make this many sections, each in a thread of its own.
 pub fn note_both<V: Notes + Send, R: Threads + Wait + Sync>(
     rt: &R,
     alloc: Global,

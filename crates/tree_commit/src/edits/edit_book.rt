@@ -84,7 +84,7 @@ impl EditBook {
     pub fn commits(&self) -> u32
         ensures value { result ≡ self.now.commits }
 
-        // What holds of every book.
+        // Of every book: no more commits than may be made.
         ensures within { result ≤ MOST_COMMITS }
     {
         self.commits

@@ -1,4 +1,4 @@
-use Rattle.std.proofs.Common.{◌≡◌, Some, None, if◌then◌else◌, sym, ap, ◌∙◌}
+use Rattle.std.proofs.Common.{Some, None, if◌then◌else◌, sym, ap, ◌∙◌}
 use Rattle.anim_delegate.specs.Table.{is_retire}
 use Rattle.tree_commit.specs.Edits.{without_model}
 use Rattle.tree_commit.specs.Runs.{model_of_event}
