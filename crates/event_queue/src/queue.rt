@@ -68,6 +68,16 @@ impl EventQueue {
         self.events.push_reserved(event);
     }
 
+    /// Puts events behind all that were sent, in their order.
+    pub fn send_all(&mut self, events: &[AnimEvent])
+        requires { length events.now ≤ self.old.room }
+        ensures events { self.new.events ≡ self.old.events ++ events.now }
+        ensures heard { self.new.heard ≡ self.old.heard }
+        ensures room { self.new.room + length events.now ≡ self.old.room }
+    {
+        append_reserved(&mut self.events, events);
+    }
+
     /// How many events were sent and are not heard.
     pub fn unheard(&self) -> usize
         ensures count { result ≡ length (unheard self.now) }
@@ -78,16 +88,26 @@ impl EventQueue {
         self.events.len() - self.heard
     }
 
+    /// Appends what is not heard to `into`, in the order of sending, and says how much that was. It stays unheard.
+    pub fn copy_new(&self, into: &mut Vec<AnimEvent>) -> usize
+        requires { vec_len into.old + length (unheard self.now) ≤ vec_capacity into.old }
+        ensures given { into.new.items ≡ into.old.items ++ unheard self.now }
+        ensures count { result ≡ length (unheard self.now) }
+        ensures capacity { vec_capacity into.new ≡ vec_capacity into.old }
+    {
+        append_reserved(into, &self.events[self.heard..]);
+        self.unheard()
+    }
+
     /// Appends what is not heard to `into`, in the order of sending, and says how much that was. Then all is heard.
     pub fn take_new(&mut self, into: &mut Vec<AnimEvent>) -> usize
         requires { vec_len into.old + length (unheard self.old) ≤ vec_capacity into.old }
         ensures given { into.new.items ≡ into.old.items ++ unheard self.old }
         ensures count { result ≡ length (unheard self.old) }
         ensures left { self.new ≡ with_all_heard self.old }
-        ensures capacity { vec_capacity into.old ≤ vec_capacity into.new }
+        ensures capacity { vec_capacity into.new ≡ vec_capacity into.old }
     {
-        let count = self.unheard();
-        append_reserved(into, &self.events[self.heard..]);
+        let count = self.copy_new(into);
         self.heard = self.events.len();
         count
     }
@@ -104,7 +124,9 @@ impl EventQueue {
 fn append_reserved(into: &mut Vec<AnimEvent>, events: &[AnimEvent])
     requires { vec_len into.old + length events.now ≤ vec_capacity into.old }
     ensures items { into.new.items ≡ into.old.items ++ events.now }
-    ensures capacity { vec_capacity into.old ≤ vec_capacity into.new }
+    ensures capacity { vec_capacity into.new ≡ vec_capacity into.old }
 {
-    into.extend_from_slice(events).unwrap();
+    for event in events {
+        into.push_reserved(*event);
+    }
 }
