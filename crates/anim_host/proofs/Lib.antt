@@ -1,0 +1,5 @@
+pub mod MarkListLemmas
+pub mod MarkLemmas
+pub mod LoopLemmas
+pub mod PushLemmas
+pub mod StartLemmas

@@ -1,0 +1,71 @@
+-- What a host holds, and what each of its calls makes of it.
+use Rattle.std.specs.Prelude.{◌≡◌, ◌⊎◌, ℕ, ◌≤◌, IsTrue, if◌then◌else◌, List, [], ◌∷◌, ◌++◌, length, Option, Some, None, IsSomeAnd}
+use Rattle.tree_commit.specs.declared.runs.mark.Mark.{Mark}
+use Rattle.tree_commit.specs.declared.runs.shown.Shown.{Shown}
+use Rattle.tree_commit.specs.Trees.{Committed, empty_commit, has_model}
+use Rattle.tree_commit.specs.Marks.{marks_of_tick, marks_of_activation}
+use Rattle.tree_commit.specs.Frames.{shown_by}
+use Rattle.tree_commit.specs.Follows.{IsAmong, has_mark}
+
+-- The active commit and perhaps a pending one; all marks so far; how many of them there were when the news were
+-- cleared; the time of the last tick; and for how many keyframe models the host was made.
+pub record Hosting : Type 0 where
+  pub active : Committed
+  pub pending : Option Committed
+  pub marks : List Mark
+  pub cleared : ℕ
+  pub last_tick : ℕ
+  pub models : ℕ
+
+-- a host before any call
+abbrev pub new_hosting : ℕ → Hosting
+new_hosting models = record {
+  active = empty_commit;
+  pending = None;
+  marks = [];
+  cleared = 0;
+  last_tick = 0;
+  models = models;
+}
+
+-- this commit is the pending one
+abbrev pub after_push : Hosting → Committed → Hosting
+after_push host commit = record host { pending = Some commit }
+
+-- The pending commit is the active one, and what is lost is aborted.
+abbrev pub after_activation : Hosting → Committed → Hosting
+after_activation host pending = record host {
+  active = pending;
+  pending = None;
+  marks = host.marks ++ marks_of_activation host.active.tree pending host.marks;
+}
+
+-- Groups have finished, and others have started.
+abbrev pub after_tick : Hosting → ℕ → Hosting
+after_tick host time = record host {
+  marks = host.marks ++ marks_of_tick host.active.tree host.pending host.marks time;
+  last_tick = time;
+}
+
+-- What the host shows of a model: what its marks say, of the models of the active commit alone.
+abbrev pub shown_in : Hosting → ℕ → Option Shown
+shown_in host id = if has_model host.active.tree id then shown_by host.marks id else None
+
+-- ---- how many models there are
+
+-- the model has a mark, or is in the active commit or in this one
+abbrev pub IsKnown : Hosting → Committed → ℕ → Type 0
+IsKnown host commit id =
+    IsTrue (has_mark host.marks id) ⊎ (IsTrue (has_model host.active.tree id) ⊎ IsTrue (has_model commit.tree id))
+
+-- each number is another
+abbrev pub AreDistinct : List ℕ → Type 0
+AreDistinct [] = Unit {0}
+AreDistinct (id ∷ ids) = (IsAmong id ids → ⊥) × AreDistinct ids
+
+-- The models that have a mark, are in the active commit or are in this one are together at most those that the host
+-- was made for: a list of such models, each another, has no more entries.
+abbrev pub HasRoomFor : Hosting → Committed → Type 0
+HasRoomFor host commit =
+    (ids : List ℕ) → AreDistinct ids → ((id : ℕ) → IsAmong id ids → IsKnown host commit id)
+    → length ids ≤ host.models

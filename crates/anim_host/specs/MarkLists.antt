@@ -1,0 +1,49 @@
+-- The list of marks as the host keeps it, and what the steps of a tick and of an activation ask of it.
+use Rattle.std.specs.Prelude.{◌≡◌, ℕ, ◌+◌, ◌≤◌, ◌==◌, Bool, true, false, not, ◌&&◌, if◌then◌else◌, ℤ, List, [], ◌∷◌, ◌++◌, length, map, drop, Option, Some, None}
+use Rattle.anim_names.specs.declared.event.AnimEvent.{AnimEvent}
+use Rattle.anim_names.specs.declared.property.Property.{Property}
+use Rattle.keyframe_model.specs.Models.{Spec}
+use Rattle.tree_commit.specs.declared.runs.mark.Mark.{Mark}
+use Rattle.tree_commit.specs.declared.runs.mark.Mark.TheVariants.{Started, Finished, Aborted}
+use Rattle.tree_commit.specs.Trees.{TreeLists, members_of}
+use Rattle.tree_commit.specs.Marks.{are_over, blocks, event_of, is_running}
+
+-- The marks; how many of them there were when the news were cleared; and for how many marks in all there is room.
+pub record Marked : Type 0 where
+  pub marks : List Mark
+  pub cleared : ℕ
+  pub room : ℕ
+
+-- the events of the marks behind the first so many
+abbrev pub events_behind : ℕ → List Mark → List AnimEvent
+events_behind cleared marks = map event_of (drop cleared marks)
+
+-- with new marks behind the others
+abbrev pub with_marks : Marked → List Mark → Marked
+with_marks marked new = record marked { marks = marked.marks ++ new }
+
+-- a mark where the test says so
+abbrev pub mark_if : Bool → Mark → List Mark
+mark_if test mark = if test then mark ∷ [] else []
+
+-- the start that a mark records for this model
+abbrev pub start_in : ℕ → Mark → Option ℤ
+start_in id (Started model group element property at start) = if id == model then Some start else None
+start_in id (Finished model at) = None
+start_in id (Aborted model commit) = None
+
+-- the mark is a start of another group that blocks the property of the element
+abbrev pub blocks_from : List Mark → ℕ → ℕ → Property → Mark → Bool
+blocks_from marks group element property (Started model other on kind at start) =
+    not (group == other) && blocks marks other element property
+blocks_from marks group element property (Finished model at) = false
+blocks_from marks group element property (Aborted model commit) = false
+
+-- the model finishes at the tick
+abbrev pub finishes : TreeLists → List Mark → ℕ → Spec → Bool
+finishes active marks tick model = is_running marks model.id && are_over active marks tick model.group
+
+-- for how many starts of these groups there must be room
+abbrev pub start_room : TreeLists → List ℕ → ℕ
+start_room tree [] = 0
+start_room tree (group ∷ groups) = length (members_of tree group) + start_room tree groups

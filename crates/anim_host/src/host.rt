@@ -1,0 +1,168 @@
+ghost use Rattle.std.specs.Prelude.{◌≡◌, ◌≤◌, [], None, Some, IfOk, OnOk, OnErr, length};
+ghost use Rattle.anim_host.specs.declared.TheConstants.{MOST_HOSTED};
+ghost use Rattle.anim_host.specs.Hosting.{HasRoomFor, after_activation, after_push, after_tick, new_hosting, shown_in};
+ghost use Rattle.anim_host.specs.MarkLists.{events_behind};
+ghost use Rattle.anim_timeline.specs.Timelines.{IsTime};
+ghost use Rattle.tree_commit.specs.Follows.{Follows};
+ghost use Rattle.tree_commit.specs.Frames.{LocalTimesFit, shown_by};
+
+use crate::mark_list::MarkList;
+use crate::marks::shown_by;
+use crate::steps::{abort_lost, make_tick};
+use anim_names::{AnimEvent, ModelId};
+use std::alloc::{AllocError, Global};
+use std::marker::Model;
+use std::sync::Arc;
+use tree_commit::{Commit, Shown, StartTable};
+
+/// What the compositor keeps of its animations: the active and the pending commit, and every mark that was made.
+///
+/// The compositor has one, on its own thread. It does not know values, curves or frames. A contract sees a `Hosting`.
+pub struct AnimHost {
+    alloc: Global,
+    active: Arc<Commit>,
+    pending: Option<Arc<Commit>>,
+    marks: MarkList,
+    last_tick: u64,
+    models: u32,
+}
+
+impl Drop for AnimHost {
+    fn drop(self) {
+        let AnimHost {
+            alloc: _,
+            active: _active,
+            pending: _pending,
+            marks: _marks,
+            last_tick: _,
+            models: _,
+        } = self;
+    }
+}
+
+impl Model for AnimHost {
+    ghost use Rattle.std.specs.Prelude.{◌+◌, ◌≤◌, IfSome, length, option_map};
+    ghost use Rattle.anim_host.specs.Hosting.{Hosting};
+
+    ghost Value = { Hosting };
+
+    ghost view = { λ h. record {
+      active = h.active.value;
+      pending = option_map (λ commit. commit.value) h.pending;
+      marks = h.marks.marks;
+      cleared = h.marks.cleared;
+      last_tick = h.last_tick;
+      models = h.models;
+    } };
+
+    ghost invariant = { λ h.
+        IfSome h.pending (λ commit. length h.marks.marks + length h.active.value.tree.models ≤ h.marks.room) };
+}
+
+impl AnimHost {
+    /// A host for this many keyframe models, with room for two events for each. Commit 0 is active, which has nothing
+    /// in it.
+    pub fn new(alloc: Global, models: u32) -> Result<AnimHost, AllocError>
+        requires { models ≤ MOST_HOSTED }
+        ensures { IfOk result (λ host. host ≡ new_hosting models) }
+    {
+        Ok(AnimHost {
+            alloc,
+            active: Commit::empty(alloc)?,
+            pending: None,
+            marks: roomy_list(alloc, models)?,
+            last_tick: 0,
+            models,
+        })
+    }
+
+    /// Makes this the pending commit. The host shares it.
+    pub fn push_commit(&mut self, commit: &Arc<Commit>) -> Result<(), AllocError>
+        requires free { self.old.pending ≡ None }
+        requires follows { Follows self.old.active.tree commit.now.value.tree self.old.marks }
+        requires room { HasRoomFor self.old commit.now.value }
+        ensures ok { OnOk result (self.new ≡ after_push self.old commit.now.value) }
+        ensures err { OnErr result (self.new ≡ self.old) }
+    {
+        let commit = commit.clone()?;
+        self.marks.reserve(self.active.model_count())?;
+        self.pending = Some(commit);
+        Ok(())
+    }
+
+    /// Makes the pending commit the active one. Models that are lost are aborted: those that are not ended and that the
+    /// new commit does not have, and those that run and whose element it does not have. It takes no memory.
+    pub fn activate(&mut self, active: &Commit, pending: &Commit)
+        requires active { active.now ≡ self.old.active }
+        requires pending { self.old.pending ≡ Some pending.now }
+        ensures { self.new ≡ after_activation self.old pending.now }
+    {
+        abort_lost(&mut self.marks, active, pending);
+        if let Some(commit) = self.pending.take() {
+            self.active = commit;
+        }
+    }
+
+    /// Makes the marks of the tick of this time, in microseconds: groups finish, and then groups start. Where there is
+    /// no memory, all stays as it was.
+    pub fn tick(&mut self, active: &Commit, time: u64) -> Result<(), AllocError>
+        requires active { active.now ≡ self.old.active }
+        requires later { self.old.last_tick ≤ time }
+        requires in_time { IsTime time }
+
+        // Each model of the active commit that is shown has a local time for which timings are defined.
+        requires locals { LocalTimesFit self.old.active.tree (shown_by self.old.marks) time }
+        ensures ok { OnOk result (self.new ≡ after_tick self.old time) }
+        ensures err { OnErr result (self.new ≡ self.old) }
+    {
+        make_tick(self.alloc, &mut self.marks, active, &self.pending, time)?;
+        self.last_tick = time;
+        Ok(())
+    }
+
+    /// The time of the last tick, in microseconds; 0 before any.
+    pub fn last_tick(&self) -> u64
+        ensures { result ≡ self.now.last_tick }
+    {
+        self.last_tick
+    }
+
+    /// The events of the marks since the news were cleared, in order.
+    pub fn news(&self) -> &[AnimEvent]
+        ensures events { result.now ≡ events_behind self.now.cleared self.now.marks }
+
+        // Of every host: no more marks were told than there are.
+        ensures within { self.now.cleared ≤ length self.now.marks }
+    {
+        self.marks.news()
+    }
+
+    /// Clears the news: all marks were told.
+    pub fn clear_news(&mut self)
+        ensures { self.new ≡ record self.old { cleared = length self.old.marks } }
+    {
+        self.marks.clear_news();
+    }
+}
+
+impl StartTable for AnimHost {
+    ghost starts = { λ host id. shown_in host id };
+
+    fn shown(&self, model: ModelId) -> Option<Shown> {
+        if self.active.has_model(model) {
+            shown_by(self.marks.marks(), model)
+        } else {
+            None
+        }
+    }
+}
+
+// A list of marks with room for two for each model.
+fn roomy_list(alloc: Global, models: u32) -> Result<MarkList, AllocError>
+    requires { models ≤ MOST_HOSTED }
+    ensures empty { IfOk result (λ list. (list.marks ≡ []) × (list.cleared ≡ 0)) }
+{
+    let mut list = MarkList::new(alloc);
+    list.reserve(2 * models as usize)?;
+    Ok(list)
+}

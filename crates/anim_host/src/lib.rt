@@ -1,0 +1,25 @@
+//! The compositor's host: which keyframe models start, finish and are aborted, and when.
+//!
+//! To the layer above it promises that the marks that a tick and an activation make are exactly those of the
+//! definitions, and that what it shows of a model is read off its marks. It keeps the commits as they are and all
+//! marks, and works everything out from these. It knows neither curves nor frames.
+#![tactic(auto)]
+
+mod groups;
+mod host;
+mod mark_list;
+mod marks;
+mod models;
+mod steps;
+
+pub use host::AnimHost;
+
+/// The most keyframe models that a host may be made for: 2^30.
+pub const MOST_HOSTED: u32 = 1 << 30;
+
+/// The most marks that a host keeps: 2^32, so that the index of each is a `u32`. Two for each of the most keyframe
+/// models are fewer.
+pub const MOST_MARKS: usize = 1 << 32;
+
+#[cfg(test)]
+mod tests;
