@@ -3,3 +3,4 @@ pub mod MarkLemmas
 pub mod LoopLemmas
 pub mod PushLemmas
 pub mod StartLemmas
+pub mod ShownLemmas

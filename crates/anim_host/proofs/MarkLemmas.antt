@@ -1,14 +1,14 @@
--- What is read off marks: who blocks, what is shown of a running model, and the start of a model.
+-- What is read off marks: who blocks, and the start of a model.
 use Rattle.std.proofs.Common.{◌≡◌, ℕ, ◌+◌, ◌≤◌, Bool, true, false, cond, List, [], ◌∷◌, Option, Some, None, refl, sym, ap, ◌∙◌}
-use Rattle.std.specs.Prelude.{ℤ, ◌&&◌, ◌||◌, ◌==◌, not, filter_map, if◌then◌else◌}
+use Rattle.std.specs.Prelude.{ℤ, unsigned_abs, IfSome, ◌&&◌, ◌||◌, ◌==◌, not, filter_map, if◌then◌else◌}
 use Rattle.std.specs.List.{list_any, cons_option}
 use Rattle.anim_names.specs.declared.property.Property.{Property}
 use Rattle.tree_commit.specs.declared.runs.mark.Mark.{Mark}
 use Rattle.tree_commit.specs.declared.runs.mark.Mark.TheVariants.{Started, Finished, Aborted}
 use Rattle.tree_commit.specs.declared.runs.shown.Shown.{Shown}
-use Rattle.tree_commit.specs.Marks.{aborts, blocks, ends, is_aborted, is_blocked_for, is_ended, is_running, is_started, start_from, start_of, started_group}
-use Rattle.tree_commit.specs.Frames.{shown_by}
-use Rattle.anim_host.specs.MarkLists.{blocks_from, start_in}
+use Rattle.tree_commit.specs.Marks.{blocks, is_blocked_for, start_from, start_of, started_group}
+use Rattle.anim_timeline.specs.declared.TheConstants.{LAST_TIME}
+use Rattle.anim_host.specs.MarkLists.{StartsAreWithin, blocks_from, start_in}
 
 -- ---- who blocks
 
@@ -25,37 +25,6 @@ blocked-from all group element property (Aborted model commit ∷ marks) = block
 pub blocked : (marks : List Mark) (group element : ℕ) (property : Property)
     → list_any (blocks_from marks group element property) marks ≡ is_blocked_for marks group element property
 blocked marks group element property = blocked-from marks group element property marks
-
--- ---- what is shown of a running model
-
-or-right : (a b : Bool) → (a || b) ≡ false → b ≡ false
-or-right true b no_one = cc
-or-right false b no_one = no_one
-
-or-both : (a b c : Bool) → (a || b) ≡ false → c ≡ false → (a || c) ≡ false
-or-both true b c no_one none = no_one
-or-both false b c no_one none = none
-
--- a model that is not ended is not aborted
-not-aborted : (id : ℕ) (marks : List Mark) → is_ended marks id ≡ false → is_aborted marks id ≡ false
-not-aborted id [] goes_on = refl
-not-aborted id (Started model group element property at start ∷ marks) goes_on = not-aborted id marks goes_on
-not-aborted id (Finished model at ∷ marks) goes_on =
-    not-aborted id marks (or-right (id == model) (is_ended marks id) goes_on)
-not-aborted id (Aborted model commit ∷ marks) goes_on =
-    or-both (id == model) (is_ended marks id) (is_aborted marks id) goes_on
-    (not-aborted id marks (or-right (id == model) (is_ended marks id) goes_on))
-
-running-goes_on : (a b : Bool) → (a && not b) ≡ true → b ≡ false
-running-goes_on true true runs = cc
-running-goes_on true false runs = refl
-running-goes_on false b runs = cc
-
--- of a running model the recorded start is shown
-pub shown-running : (marks : List Mark) (id : ℕ) → is_running marks id ≡ true → shown_by marks id ≡ start_of marks id
-shown-running marks id runs =
-    ap (λ b. if b then None else start_of marks id)
-    (not-aborted id marks (running-goes_on (is_started marks id) (is_ended marks id) runs))
 
 -- ---- the start of a model
 
@@ -89,3 +58,24 @@ pub start-later : (index id : ℕ) (mark : Mark) (marks : List Mark) → start_i
 unfolding start-from
 start-later index id mark marks none =
     start-here index id mark marks ∙ ap (λ o. start-from index o (start_from (index + 1) marks id)) none
+
+-- ---- recorded starts in range
+
+found-within : (b : Bool) (start : ℤ) (index : ℕ) (rest : Option Shown) → unsigned_abs start ≤ LAST_TIME
+    → IfSome rest (λ s. unsigned_abs s.start ≤ LAST_TIME)
+    → IfSome (if b then Some (record { start = start; order = index }) else rest) (λ s. unsigned_abs s.start ≤ LAST_TIME)
+found-within true start index rest one others = one
+found-within false start index rest one others = others
+
+start-within : (index : ℕ) (marks : List Mark) (id : ℕ) → StartsAreWithin marks
+    → IfSome (start_from index marks id) (λ s. unsigned_abs s.start ≤ LAST_TIME)
+start-within index [] id within = tt
+start-within index (Started model group element property at start ∷ marks) id within =
+    found-within (id == model) start index (start_from (index + 1) marks id) within.0 (start-within (index + 1) marks id within.1)
+start-within index (Finished model at ∷ marks) id within = start-within (index + 1) marks id within.1
+start-within index (Aborted model commit ∷ marks) id within = start-within (index + 1) marks id within.1
+
+-- the recorded start of a model is in range
+pub start_within : (marks : List Mark) (id : ℕ) → StartsAreWithin marks
+    → IfSome (start_of marks id) (λ s. unsigned_abs s.start ≤ LAST_TIME)
+start_within marks id within = start-within 0 marks id within

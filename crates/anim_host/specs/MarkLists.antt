@@ -1,7 +1,8 @@
 -- The list of marks as the host keeps it, and what the steps of a tick and of an activation ask of it.
-use Rattle.std.specs.Prelude.{◌≡◌, ℕ, ◌+◌, ◌≤◌, ◌==◌, Bool, true, false, not, ◌&&◌, if◌then◌else◌, ℤ, List, [], ◌∷◌, ◌++◌, length, map, drop, Option, Some, None}
+use Rattle.std.specs.Prelude.{◌≡◌, ℕ, ◌+◌, ◌≤◌, ◌==◌, Bool, true, false, not, ◌&&◌, if◌then◌else◌, ℤ, unsigned_abs, List, [], ◌∷◌, ◌++◌, length, map, drop, Option, Some, None}
 use Rattle.anim_names.specs.declared.event.AnimEvent.{AnimEvent}
 use Rattle.anim_names.specs.declared.property.Property.{Property}
+use Rattle.anim_timeline.specs.declared.TheConstants.{LAST_TIME}
 use Rattle.keyframe_model.specs.Models.{Spec}
 use Rattle.tree_commit.specs.declared.runs.mark.Mark.{Mark}
 use Rattle.tree_commit.specs.declared.runs.mark.Mark.TheVariants.{Started, Finished, Aborted}
@@ -13,6 +14,17 @@ pub record Marked : Type 0 where
   pub marks : List Mark
   pub cleared : ℕ
   pub room : ℕ
+
+-- the start that the mark records, where it is a start, is at most the last time in size
+abbrev pub StartIsWithin : Mark → Type 0
+StartIsWithin (Started model group element property at start) = unsigned_abs start ≤ LAST_TIME
+StartIsWithin (Finished model at) = Unit {0}
+StartIsWithin (Aborted model commit) = Unit {0}
+
+-- each recorded start is
+abbrev pub StartsAreWithin : List Mark → Type 0
+StartsAreWithin [] = Unit {0}
+StartsAreWithin (mark ∷ marks) = StartIsWithin mark × StartsAreWithin marks
 
 -- the events of the marks behind the first so many
 abbrev pub events_behind : ℕ → List Mark → List AnimEvent

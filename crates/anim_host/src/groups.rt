@@ -1,15 +1,13 @@
 //! What is asked of the groups of a commit.
 
-ghost use Rattle.std.specs.Prelude.{◌≡◌, ◌≤◌, ◌==◌, true, if◌then◌else◌, unsigned_abs, IsTrue, IfSome, IfOk, OnOk, length, option_map};
+ghost use Rattle.std.specs.Prelude.{◌≡◌, ◌≤◌, ◌==◌, true, if◌then◌else◌, IsTrue, IfOk, OnOk, length, option_map};
 ghost use Rattle.std.specs.List.{list_all, list_any};
 ghost use Rattle.anim_host.specs.declared.TheConstants.{MOST_MARKS};
-ghost use Rattle.anim_host.specs.MarkLists.{finishes, start_room};
+ghost use Rattle.anim_host.specs.MarkLists.{StartsAreWithin, finishes, start_room};
 ghost use Rattle.anim_timeline.specs.Timelines.{IsTime};
-ghost use Rattle.micro_time.specs.declared.TheConstants.{LARGEST_LOCAL};
-ghost use Rattle.tree_commit.specs.Frames.{LocalTimesFit, shown_by};
 ghost use Rattle.tree_commit.specs.Marks.{are_over, is_over, is_ready, is_running, may_start, start_of};
 ghost use Rattle.tree_commit.specs.Tables.{has_timeline};
-ghost use Rattle.tree_commit.specs.Trees.{groups_of, has_group, local_time, members_of, with_group_of};
+ghost use Rattle.tree_commit.specs.Trees.{groups_of, has_group, members_of, with_group_of};
 
 use crate::mark_list::sum;
 use crate::marks::{has_started, is_running, start_of};
@@ -85,7 +83,7 @@ fn lets_start(
 pub(crate) fn finishes(active: &Commit, marks: &[Mark], tick: u64, model: &ModelSpec) -> bool
     requires most { length marks.now ≤ MOST_MARKS }
     requires in_time { IsTime tick }
-    requires locals { LocalTimesFit active.now.tree (shown_by marks.now) tick }
+    requires within { StartsAreWithin marks.now }
     ensures { result ≡ finishes active.now.tree marks.now tick model.now }
 {
     is_running(marks, model.id()) && are_over(active, marks, tick, model.group())
@@ -95,7 +93,7 @@ pub(crate) fn finishes(active: &Commit, marks: &[Mark], tick: u64, model: &Model
 fn are_over(active: &Commit, marks: &[Mark], tick: u64, group: GroupId) -> bool
     requires most { length marks.now ≤ MOST_MARKS }
     requires in_time { IsTime tick }
-    requires locals { LocalTimesFit active.now.tree (shown_by marks.now) tick }
+    requires within { StartsAreWithin marks.now }
     ensures { result ≡ are_over active.now.tree marks.now tick group }
 {
     let mut over = true;
@@ -116,8 +114,7 @@ fn lets_finish(
     requires most { length marks.now ≤ MOST_MARKS }
     requires in_time { IsTime tick }
     requires timeline_there { IsTrue (has_timeline active.now.tree model.now.timeline) }
-    requires local { IfSome (shown_by marks.now model.now.id)
-        (λ s. unsigned_abs (local_time active.now.tree tick model.now s.start) ≤ LARGEST_LOCAL) }
+    requires within { StartsAreWithin marks.now }
     ensures { result
         ≡ (if group == model.now.group then
             (if is_running marks.now model.now.id
@@ -137,8 +134,7 @@ fn is_over_or_still(active: &Commit, marks: &[Mark], tick: u64, model: &ModelSpe
     requires most { length marks.now ≤ MOST_MARKS }
     requires in_time { IsTime tick }
     requires timeline_there { IsTrue (has_timeline active.now.tree model.now.timeline) }
-    requires local { IfSome (shown_by marks.now model.now.id)
-        (λ s. unsigned_abs (local_time active.now.tree tick model.now s.start) ≤ LARGEST_LOCAL) }
+    requires within { StartsAreWithin marks.now }
     ensures { result
         ≡ (if is_running marks.now model.now.id
         then is_over active.now.tree tick model.now (start_of marks.now model.now.id)

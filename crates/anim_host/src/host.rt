@@ -1,10 +1,9 @@
 ghost use Rattle.std.specs.Prelude.{◌≡◌, ◌≤◌, [], None, Some, IfOk, OnOk, OnErr, length};
 ghost use Rattle.anim_host.specs.declared.TheConstants.{MOST_HOSTED};
 ghost use Rattle.anim_host.specs.Hosting.{HasRoomFor, after_activation, after_push, after_tick, new_hosting, shown_in};
-ghost use Rattle.anim_host.specs.MarkLists.{events_behind};
+ghost use Rattle.anim_host.specs.MarkLists.{StartsAreWithin, events_behind};
 ghost use Rattle.anim_timeline.specs.Timelines.{IsTime};
 ghost use Rattle.tree_commit.specs.Follows.{Follows};
-ghost use Rattle.tree_commit.specs.Frames.{LocalTimesFit, shown_by};
 
 use crate::mark_list::MarkList;
 use crate::marks::shown_by;
@@ -109,9 +108,6 @@ impl AnimHost {
         requires active { active.now ≡ self.old.active }
         requires later { self.old.last_tick ≤ time }
         requires in_time { IsTime time }
-
-        // Each model of the active commit that is shown has a local time for which timings are defined.
-        requires locals { LocalTimesFit self.old.active.tree (shown_by self.old.marks) time }
         ensures ok { OnOk result (self.new ≡ after_tick self.old time) }
         ensures err { OnErr result (self.new ≡ self.old) }
     {
@@ -131,8 +127,9 @@ impl AnimHost {
     pub fn news(&self) -> &[AnimEvent]
         ensures events { result.now ≡ events_behind self.now.cleared self.now.marks }
 
-        // Of every host: no more marks were told than there are.
-        ensures within { self.now.cleared ≤ length self.now.marks }
+        // Of every host: no more marks were told than there are, and recorded starts are in the range of times.
+        ensures told { self.now.cleared ≤ length self.now.marks }
+        ensures within { StartsAreWithin self.now.marks }
     {
         self.marks.news()
     }

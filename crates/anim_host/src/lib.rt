@@ -7,6 +7,7 @@
 
 mod groups;
 mod host;
+pub mod laws;
 mod mark_list;
 mod marks;
 mod models;

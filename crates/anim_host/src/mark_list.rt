@@ -1,6 +1,6 @@
 ghost use Rattle.std.specs.Prelude.{◌≡◌, ◌+◌, ◌<◌, ◌≤◌, [], ◌∷◌, length, take, OnOk, OnErr, IfOk};
 ghost use Rattle.anim_host.specs.declared.TheConstants.{MOST_MARKS};
-ghost use Rattle.anim_host.specs.MarkLists.{events_behind, mark_if, with_marks};
+ghost use Rattle.anim_host.specs.MarkLists.{StartIsWithin, StartsAreWithin, events_behind, mark_if, with_marks};
 ghost use Rattle.tree_commit.specs.Marks.{event_of};
 
 use crate::MOST_MARKS;
@@ -33,7 +33,7 @@ impl Drop for MarkList {
 impl Model for MarkList {
     ghost use Rattle.std.specs.Prelude.{◌≡◌, ◌≤◌, length, vec_capacity};
     ghost use Rattle.anim_host.specs.declared.TheConstants.{MOST_MARKS};
-    ghost use Rattle.anim_host.specs.MarkLists.{Marked, events_behind};
+    ghost use Rattle.anim_host.specs.MarkLists.{Marked, StartsAreWithin, events_behind};
 
     ghost Value = { Marked };
 
@@ -45,7 +45,8 @@ impl Model for MarkList {
         × (length m.marks.items ≤ m.room)
         × (m.room ≤ vec_capacity m.marks)
         × (m.room ≤ vec_capacity m.news)
-        × (m.room ≤ MOST_MARKS) };
+        × (m.room ≤ MOST_MARKS)
+        × StartsAreWithin m.marks.items };
 }
 
 impl MarkList {
@@ -67,6 +68,7 @@ impl MarkList {
 
         // Of every list.
         ensures most { length self.now.marks ≤ MOST_MARKS }
+        ensures within { StartsAreWithin self.now.marks }
     {
         &self.marks
     }
@@ -79,10 +81,12 @@ impl MarkList {
     }
 
     /// The first so many marks.
+    #[tactic(auto, using(crate::proofs::MarkListLemmas::within_take))]
     pub(crate) fn first(&self, count: usize) -> &[Mark]
         requires { count ≤ length self.now.marks }
         ensures first { result.now ≡ take count self.now.marks }
         ensures most { length result.now ≤ MOST_MARKS }
+        ensures within { StartsAreWithin result.now }
     {
         &self.marks[..count]
     }
@@ -91,6 +95,7 @@ impl MarkList {
     pub(crate) fn news(&self) -> &[AnimEvent]
         ensures events { result.now ≡ events_behind self.now.cleared self.now.marks }
         ensures cleared { self.now.cleared ≤ length self.now.marks }
+        ensures within { StartsAreWithin self.now.marks }
     {
         &self.news
     }
@@ -126,9 +131,10 @@ impl MarkList {
     }
 
     /// Puts a mark behind the others.
-    #[tactic(auto, using(crate::proofs::MarkListLemmas::behind))]
+    #[tactic(auto, using(crate::proofs::MarkListLemmas::pushes))]
     pub(crate) fn push(&mut self, mark: Mark)
-        requires { length self.old.marks < self.old.room }
+        requires room { length self.old.marks < self.old.room }
+        requires within { StartIsWithin mark }
         ensures { self.new ≡ with_marks self.old (mark ∷ []) }
     {
         self.marks.push_reserved(mark);
@@ -137,7 +143,8 @@ impl MarkList {
 
     /// Puts a mark behind the others where the test says so.
     pub(crate) fn push_if(&mut self, test: bool, mark: Mark)
-        requires { length self.old.marks < self.old.room }
+        requires room { length self.old.marks < self.old.room }
+        requires within { StartIsWithin mark }
         ensures { self.new ≡ with_marks self.old (mark_if test mark) }
     {
         if test {

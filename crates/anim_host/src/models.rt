@@ -1,13 +1,13 @@
 //! What is asked of one keyframe model, by a commit and the marks.
 
 ghost use Rattle.std.specs.Prelude.{◌≡◌, ◌≤◌, ◌-ℤ◌, unsigned_abs, IsTrue, IfSome, option_map};
+ghost use Rattle.anim_host.specs.MarkLists.{StartIsWithin};
 ghost use Rattle.anim_timeline.specs.declared.TheConstants.{LAST_TIME};
 ghost use Rattle.anim_timeline.specs.Timelines.{IsTime};
-ghost use Rattle.micro_time.specs.declared.TheConstants.{LARGEST_LOCAL};
 ghost use Rattle.micro_time.specs.Timings.{is_done};
 ghost use Rattle.tree_commit.specs.Marks.{is_lost, is_over, may_start, pending_allows, recorded_start, start_mark};
 ghost use Rattle.tree_commit.specs.Tables.{has_timeline};
-ghost use Rattle.tree_commit.specs.Trees.{local_time, time_of};
+ghost use Rattle.tree_commit.specs.Trees.{time_of};
 
 use crate::groups::has_group;
 use crate::marks::{is_blocked_for, is_ended, is_started};
@@ -54,7 +54,7 @@ pub(crate) fn is_lost(new: &Commit, marks: &[Mark], model: &ModelSpec) -> bool
 pub(crate) fn is_over(active: &Commit, model: &ModelSpec, tick: u64, shown: Option<Shown>) -> bool
     requires timeline_there { IsTrue (has_timeline active.now.tree model.now.timeline) }
     requires in_time { IsTime tick }
-    requires local { IfSome shown (λ s. unsigned_abs (local_time active.now.tree tick model.now s.start) ≤ LARGEST_LOCAL) }
+    requires within { IfSome shown (λ s. unsigned_abs s.start ≤ LAST_TIME) }
     ensures { result ≡ is_over active.now.tree tick model.now shown }
 {
     match shown {
@@ -65,7 +65,8 @@ pub(crate) fn is_over(active: &Commit, model: &ModelSpec, tick: u64, shown: Opti
 
 // Whether the model is done at a time of its timeline that is so long after its start.
 fn is_done_since(model: &ModelSpec, time: i64, start: i64) -> bool
-    requires { unsigned_abs (time -ℤ start) ≤ LARGEST_LOCAL }
+    requires time { unsigned_abs time ≤ LAST_TIME }
+    requires start { unsigned_abs start ≤ LAST_TIME }
     ensures { result ≡ is_done model.now.timing (time -ℤ start) }
 {
     model.is_done(time - start)
@@ -75,7 +76,8 @@ fn is_done_since(model: &ModelSpec, time: i64, start: i64) -> bool
 pub(crate) fn start_mark(active: &Commit, model: &ModelSpec, tick: u64) -> Mark
     requires timeline_there { IsTrue (has_timeline active.now.tree model.now.timeline) }
     requires in_time { IsTime tick }
-    ensures { result ≡ start_mark active.now.tree tick model.now }
+    ensures mark { result ≡ start_mark active.now.tree tick model.now }
+    ensures within { StartIsWithin result }
 {
     Mark::Started {
         model: model.id(),
@@ -89,8 +91,10 @@ pub(crate) fn start_mark(active: &Commit, model: &ModelSpec, tick: u64) -> Mark
 
 // The start to record: the given one, else what the timeline shows.
 fn recorded_start(given: Option<u64>, time: i64) -> i64
-    requires { IfSome given (λ start. start ≤ LAST_TIME) }
-    ensures { result ≡ recorded_start given time }
+    requires given { IfSome given (λ start. start ≤ LAST_TIME) }
+    requires time { unsigned_abs time ≤ LAST_TIME }
+    ensures value { result ≡ recorded_start given time }
+    ensures within { unsigned_abs result ≤ LAST_TIME }
 {
     match given {
         None => time,
@@ -102,7 +106,8 @@ fn recorded_start(given: Option<u64>, time: i64) -> i64
 fn time_of(active: &Commit, model: &ModelSpec, tick: u64) -> i64
     requires timeline_there { IsTrue (has_timeline active.now.tree model.now.timeline) }
     requires in_time { IsTime tick }
-    ensures { result ≡ time_of active.now.tree tick model.now }
+    ensures value { result ≡ time_of active.now.tree tick model.now }
+    ensures size { unsigned_abs result ≤ LAST_TIME }
 {
     let timeline = active.timeline(model.timeline()).unwrap();
     timeline.time_of(tick)

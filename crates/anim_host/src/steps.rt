@@ -4,7 +4,6 @@ ghost use Rattle.std.specs.Prelude.{◌≡◌, ◌+◌, ◌<◌, ◌≤◌, ◌=
 ghost use Rattle.anim_host.specs.MarkLists.{finishes, mark_if, start_room, with_marks};
 ghost use Rattle.anim_timeline.specs.Timelines.{IsTime};
 ghost use Rattle.tree_commit.specs.declared.runs.mark.Mark.TheVariants.{Aborted, Finished};
-ghost use Rattle.tree_commit.specs.Frames.{LocalTimesFit, shown_by};
 ghost use Rattle.tree_commit.specs.Marks.{finish_marks, group_marks, is_lost, marks_of_activation, marks_of_tick, start_mark, start_marks};
 ghost use Rattle.tree_commit.specs.Tables.{has_timeline};
 ghost use Rattle.tree_commit.specs.Trees.{groups_of, members_of};
@@ -30,7 +29,6 @@ pub(crate) fn make_tick(
     tick: u64,
 ) -> Result<(), AllocError>
     requires in_time { IsTime tick }
-    requires locals { LocalTimesFit active.now.tree (shown_by marks.old.marks) tick }
     ensures marks { OnOk result (marks.new.marks
         ≡ marks.old.marks ++ marks_of_tick active.now.tree (option_map (λ commit. commit.value) pending.now) marks.old.marks tick) }
     ensures cleared { marks.new.cleared ≡ marks.old.cleared }
@@ -65,7 +63,6 @@ fn make_marks(
         + (length active.now.tree.models + (start_room active.now.tree groups.now + length active.now.tree.models))
         ≤ marks.old.room }
     requires in_time { IsTime tick }
-    requires locals { LocalTimesFit active.now.tree (shown_by marks.old.marks) tick }
     ensures marks { marks.new ≡ with_marks marks.old
         (marks_of_tick active.now.tree (option_map (λ commit. commit.value) pending.now) marks.old.marks tick) }
     ensures left { length marks.new.marks + length active.now.tree.models ≤ marks.new.room }
@@ -78,7 +75,6 @@ fn make_marks(
 fn finish(marks: &mut MarkList, active: &Commit, tick: u64)
     requires room { length marks.old.marks + length active.now.tree.models ≤ marks.old.room }
     requires in_time { IsTime tick }
-    requires locals { LocalTimesFit active.now.tree (shown_by marks.old.marks) tick }
     ensures marks { marks.new ≡ with_marks marks.old (finish_marks active.now.tree marks.old.marks tick) }
     ensures few { length marks.new.marks ≤ length marks.old.marks + length active.now.tree.models }
 {
@@ -93,7 +89,6 @@ fn finish_one(marks: &mut MarkList, before: usize, active: &Commit, model: &Mode
     requires before { before ≤ length marks.old.marks }
     requires room { length marks.old.marks < marks.old.room }
     requires in_time { IsTime tick }
-    requires locals { LocalTimesFit active.now.tree (shown_by (take before marks.old.marks)) tick }
     ensures { marks.new ≡ with_marks marks.old
         (mark_if (finishes active.now.tree (take before marks.old.marks) tick model.now) (Finished model.now.id tick)) }
 {
