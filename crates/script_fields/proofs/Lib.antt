@@ -1,3 +1,4 @@
 pub mod Digits
 pub mod Spelled
 pub mod Kept
+pub mod Items
