@@ -2,9 +2,14 @@
 #![tactic(auto)]
 
 mod cause;
+mod compositor_said;
+mod edit_said;
 mod fault;
+mod key_said;
+mod key_value;
 mod lines;
 mod model_line;
+mod model_said;
 pub mod worked;
 
 pub use cause::Cause;
