@@ -13,10 +13,18 @@ use value_blend::Blend;
 /// The commit that is drawn.
 ///
 /// The compositor has one active tree, and there is always a commit in it. A contract sees that commit.
-#[derive(Drop)]
 pub struct ActiveTree {
     alloc: Global,
     commit: Arc<Commit>,
+}
+
+impl Drop for ActiveTree {
+    fn drop(self) {
+        let ActiveTree {
+            alloc: _,
+            commit: _commit,
+        } = self;
+    }
 }
 
 impl Model for ActiveTree {

@@ -1,1 +1,2 @@
+pub mod Delegates
 pub mod Table

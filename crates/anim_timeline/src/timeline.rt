@@ -42,7 +42,7 @@ impl Timeline {
     pub fn zero(&self) -> u64
         ensures value { result ≡ self.now }
 
-        // What holds of every timeline: `new` would take it.
+        // So is the zero of every timeline.
         ensures within { IsTime self.now }
     {
         self.origin

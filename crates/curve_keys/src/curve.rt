@@ -7,7 +7,7 @@ ghost use Rattle.curve_keys.specs.Curves.{IsKey, value_from, is_rising, is_risin
 ghost use Rattle.micro_time.specs.declared.TheConstants.{LONGEST_DURATION};
 
 use crate::{CurveFault, FEWEST_KEYS, Key, MOST_KEYS};
-use easing_fixed::{Easing, ONE};
+use easing_fixed::{Easing, EasingFunction, Evaluator, ONE};
 use std::alloc::AllocError;
 use std::marker::Model;
 use value_blend::Blend;
@@ -19,7 +19,7 @@ const BEGIN: u64 = 0;
 ///
 /// The curve's own easing bends the time before a value is looked up. Contracts see a curve as its keys and its
 /// easing; `curve_value` of them is the value at a time.
-#[derive(Debug, Drop)]
+#[derive(Debug)]
 pub struct Curve<V: Blend> {
     keys: Vec<Key<V>>,
     easing: Easing,
@@ -36,6 +36,16 @@ impl<V: Blend> Model for Curve<V> {
 
     ghost invariant = { λ c.
         IsCurve V.is_value (keyframes c.keys.items c.easing) × (c.duration ≡ last_time 0 c.keys.items) };
+}
+
+impl<V: Blend + Drop> Drop for Curve<V> {
+    fn drop(self) {
+        let Curve {
+            keys: _keys,
+            easing: _,
+            duration: _,
+        } = self;
+    }
 }
 
 impl<V: Blend + Drop> Curve<V> {
@@ -97,7 +107,7 @@ impl<V: Blend> Curve<V> {
         self.keys.len()
     }
 
-    /// The key at a place, which counts from 0.
+    /// The key of this index, which counts from 0.
     pub fn key(&self, i: usize) -> &Key<V>
         requires { i < length self.now.keys }
         ensures { slice_get self.now.keys i ≡ Some result.now }
@@ -106,14 +116,16 @@ impl<V: Blend> Curve<V> {
     }
 
     // The time that the curve's own easing makes of a time.
-    fn bent_time(&self, time: u64) -> u64
+    fn bent_time<E: EasingFunction>(&self, time: u64, evaluator: &Evaluator<E>) -> u64
         requires { time ≤ duration_of self.now }
         ensures value { result ≡ bent_time self.now.easing (duration_of self.now) time }
         ensures within { result ≤ duration_of self.now }
     {
         match self.easing {
             Easing::Linear => time,
-            Easing::Steps(_) | Easing::Cubic(_) => bend(&self.easing, self.duration, time),
+            Easing::Steps(_) | Easing::Cubic(_) => {
+                bend(&self.easing, self.duration, time, evaluator)
+            }
         }
     }
 }
@@ -122,21 +134,30 @@ impl<V: Blend> Curve<V> {
     ghost use Rattle.curve_keys.specs.Curves.{duration_of, curve_value};
 
     /// The value at a time, in microseconds from the beginning of the curve.
-    pub fn value_at(&self, time: u64) -> Result<V, AllocError>
+    pub fn value_at<E: EasingFunction>(
+        &self,
+        time: u64,
+        evaluator: &Evaluator<E>,
+    ) -> Result<V, AllocError>
         requires { time ≤ duration_of self.now }
         ensures value { IfOk result (λ value. curve_value V.blended self.now time ≡ Some value) }
         ensures without_memory { V.TAKES_MEMORY ≡ false → IsOk result }
     {
-        let time = self.bent_time(time);
+        let time = self.bent_time(time, evaluator);
         if time == BEGIN {
             return self.keys[0].value.copy();
         }
-        value_from(&self.keys[0], &self.keys[1..], time)
+        value_from(&self.keys[0], &self.keys[1..], time, evaluator)
     }
 }
 
 // The time of a curve of this duration that an easing makes of a time.
-fn bend(easing: &Easing, duration: u64, time: u64) -> u64
+fn bend<E: EasingFunction>(
+    easing: &Easing,
+    duration: u64,
+    time: u64,
+    evaluator: &Evaluator<E>,
+) -> u64
     requires within { time ≤ duration }
     requires some { 0 < duration }
     requires short { duration ≤ LONGEST_DURATION }
@@ -145,12 +166,17 @@ fn bend(easing: &Easing, duration: u64, time: u64) -> u64
     ensures within { result ≤ duration }
 {
     let progress = (time * u64::from(ONE) / duration) as u32;
-    let bent = easing.value(progress) * duration as i64;
+    let bent = evaluator.ease(easing, progress) * duration as i64;
     bent.div_euclid(i64::from(ONE)).clamp(0, duration as i64) as u64
 }
 
 // The value from this key on: up to the next key a blend of the two, and from the last key on that key's value.
-fn value_from<V: Blend>(first: &Key<V>, keys: &[Key<V>], time: u64) -> Result<V, AllocError>
+fn value_from<V: Blend, E: EasingFunction>(
+    first: &Key<V>,
+    keys: &[Key<V>],
+    time: u64,
+    evaluator: &Evaluator<E>,
+) -> Result<V, AllocError>
     requires begun { first.now.time ≤ time }
     requires short { All (λ key. key.time ≤ LONGEST_DURATION) keys.now }
     ensures value { IfOk result (λ value. value ≡ value_from V.blended first.now keys.now time) }
@@ -159,7 +185,7 @@ fn value_from<V: Blend>(first: &Key<V>, keys: &[Key<V>], time: u64) -> Result<V,
     let mut from = first;
     for to in keys {
         if time < to.time {
-            return from.value_before(to, time);
+            return from.value_before(to, time, evaluator);
         }
         from = to;
     }

@@ -1,7 +1,7 @@
 ghost use Rattle.std.specs.Prelude.{◌≡◌, ◌≤◌, ◌<◌, false, IfOk, IsOk};
 ghost use Rattle.micro_time.specs.declared.TheConstants.{LONGEST_DURATION};
 
-use easing_fixed::{Easing, ONE};
+use easing_fixed::{Easing, EasingFunction, Evaluator, ONE};
 use std::alloc::AllocError;
 use value_blend::Blend;
 
@@ -35,7 +35,12 @@ impl<V: Blend> Key<V> {
     ghost use Rattle.curve_keys.specs.Curves.{progress_between};
 
     // The value at a time between this key and the next.
-    pub(crate) fn value_before(&self, next: &Key<V>, time: u64) -> Result<V, AllocError>
+    pub(crate) fn value_before<E: EasingFunction>(
+        &self,
+        next: &Key<V>,
+        time: u64,
+        evaluator: &Evaluator<E>,
+    ) -> Result<V, AllocError>
         requires begun { self.now.time ≤ time }
         requires not_over { time < next.now.time }
         requires short { next.now.time ≤ LONGEST_DURATION }
@@ -43,7 +48,7 @@ impl<V: Blend> Key<V> {
             ≡ V.blended self.now.value next.now.value (eased self.now.easing (progress_between self.now next.now time))) }
         ensures without_memory { V.TAKES_MEMORY ≡ false → IsOk result }
     {
-        let progress = self.easing.value(self.progress_to(next, time));
+        let progress = evaluator.ease(&self.easing, self.progress_to(next, time));
         V::blend(&self.value, &next.value, progress)
     }
 }

@@ -1,5 +1,8 @@
+ghost use Rattle.easing_fixed.specs.Evaluators.{MayEase, Eases};
+
 use super::*;
-use easing_fixed::{Easing, StepPosition};
+use easing_fixed::{Easing, EasingFunction, Evaluator, StepPosition};
+use micro_time::LONGEST_DURATION;
 use std::process::Abort;
 use std::test::Fail;
 use value_blend::Opacity;
@@ -20,14 +23,27 @@ fn curve(
     keys: Vec<Key<Opacity>>,
     easing: Easing,
 ) -> Result<Curve<Opacity>, CurveFault> {
-    assert!(rt; keys.iter().all(|key| key.time <= 1 << 36));
+    assert!(rt; keys.iter().all(|key| key.time <= LONGEST_DURATION));
     Curve::new(keys, easing)
 }
 
 fn expect_rows(rt: &impl Abort, curve: &Curve<Opacity>, rows: &[(u64, u32)]) -> Result<(), Fail> {
+    expect_rows_by(rt, Easing::value, curve, rows)
+}
+
+fn expect_rows_by<E: EasingFunction + Drop>(
+    rt: &impl Abort,
+    function: E,
+    curve: &Curve<Opacity>,
+    rows: &[(u64, u32)],
+) -> Result<(), Fail>
+    requires may_be_called { MayEase (E.asks function) }
+    requires exact { Eases (E.answers function) }
+{
+    let evaluator = Evaluator::new(function);
     for (time, want) in rows {
         assert!(rt; *time <= curve.duration());
-        assert_eq!(rt; curve.value_at(*time)?.get(), *want, "at {time}");
+        assert_eq!(rt; curve.value_at(*time, &evaluator)?.get(), *want, "at {time}");
     }
     Ok(())
 }

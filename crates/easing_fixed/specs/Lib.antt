@@ -1,4 +1,5 @@
 pub mod Steps
 pub mod Cubics
 pub mod Easings
+pub mod Evaluators
 pub mod Worked

@@ -8,6 +8,7 @@
 pub mod cubic;
 mod curve;
 pub mod easing;
+pub mod evaluator;
 pub mod fault;
 pub mod laws;
 pub mod position;
@@ -16,6 +17,7 @@ pub mod worked;
 
 pub use cubic::CubicShape;
 pub use easing::Easing;
+pub use evaluator::{EasingFunction, Evaluator};
 pub use fault::EasingFault;
 pub use position::StepPosition;
 pub use step::StepShape;

@@ -1,8 +1,12 @@
+ghost use Rattle.easing_fixed.specs.Evaluators.{MayEase, Eases};
+
 use super::*;
 use std::process::Abort;
 use std::test::Fail;
 
 fn is_shared<T: Copy + Eq + Send + Sync>() {}
+
+fn is_sent<T: Send + Sync>(_: &T) {}
 
 fn expect_rows(rt: &impl Abort, easing: &Easing, rows: &[(u32, i64)]) {
     for (p, want) in rows {
@@ -17,6 +21,22 @@ fn types_are_shared_between_threads() {
     is_shared::<EasingFault>();
     is_shared::<StepShape>();
     is_shared::<CubicShape>();
+}
+
+fn expect_eased<E: EasingFunction + Send + Sync + Drop>(rt: &impl Abort, function: E)
+    requires may_be_called { MayEase (E.asks function) }
+    requires exact { Eases (E.answers function) }
+{
+    let evaluator = Evaluator::new(function);
+    is_sent(&evaluator);
+    assert!(rt; evaluator.ease(&Easing::ease_out(), 359_137) == 524_286);
+    assert!(rt; evaluator.ease(&Easing::step_end(), 524_288) == 0);
+}
+
+#[test]
+fn an_evaluator_calls_the_stored_function(rt: HostRuntime) {
+    expect_eased(&rt, Easing::value);
+    expect_eased(&rt, |easing: &Easing, p: u32| easing.value(p));
 }
 
 #[test]

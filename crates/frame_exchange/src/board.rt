@@ -13,13 +13,24 @@ use tree_commit::Commit;
 ///
 /// There is one board for a run; when the lanes are threads, a lock is round it. It waits for nobody. A contract sees
 /// the entries, the mailbox and the room for further entries.
-#[derive(Drop)]
 pub struct Board {
     entries: Vec<Entry>,
     mailbox: Option<Arc<Commit>>,
     published: u32,
     main: u32,
     compositor: u32,
+}
+
+impl Drop for Board {
+    fn drop(self) {
+        let Board {
+            entries: _entries,
+            mailbox: _mailbox,
+            published: _,
+            main: _,
+            compositor: _,
+        } = self;
+    }
 }
 
 impl Model for Board {

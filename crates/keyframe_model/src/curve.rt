@@ -4,22 +4,41 @@ ghost use Rattle.keyframe_model.specs.Views.{curve_of, value_of};
 
 use anim_names::Property;
 use curve_keys::Curve;
+use easing_fixed::{EasingFunction, Evaluator};
 use std::alloc::AllocError;
 use transform_ops::TransformList;
 use value_blend::Opacity;
 
 /// A curve of one of the properties.
-#[derive(Debug, Drop)]
+#[derive(Debug)]
 pub enum CurveOf {
     Opacity(Curve<Opacity>),
     Transform(Curve<TransformList>),
 }
 
 /// A value of one of the properties.
-#[derive(Debug, Drop)]
+#[derive(Debug)]
 pub enum Value {
     Opacity(Opacity),
     Transform(TransformList),
+}
+
+impl Drop for CurveOf {
+    fn drop(self) {
+        match self {
+            CurveOf::Opacity(_curve) => {}
+            CurveOf::Transform(_curve) => {}
+        }
+    }
+}
+
+impl Drop for Value {
+    fn drop(self) {
+        match self {
+            Value::Opacity(_) => {}
+            Value::Transform(_list) => {}
+        }
+    }
 }
 
 impl CurveOf {
@@ -58,14 +77,18 @@ impl CurveOf {
     }
 
     /// The value at a time, in microseconds from the beginning of the curve.
-    pub fn value_at(&self, time: u64) -> Result<Value, AllocError>
+    pub fn value_at<E: EasingFunction>(
+        &self,
+        time: u64,
+        evaluator: &Evaluator<E>,
+    ) -> Result<Value, AllocError>
         requires { time ≤ curve_duration (curve_of self.now) }
         ensures value { IfOk result (λ value. value_on (curve_of self.now) time ≡ Some (value_of value)) }
         ensures without_memory { property_of_curve (curve_of self.now) ≡ Property.Opacity → IsOk result }
     {
         match self {
-            CurveOf::Opacity(curve) => Ok(Value::Opacity(curve.value_at(time)?)),
-            CurveOf::Transform(curve) => Ok(Value::Transform(curve.value_at(time)?)),
+            CurveOf::Opacity(curve) => Ok(Value::Opacity(curve.value_at(time, evaluator)?)),
+            CurveOf::Transform(curve) => Ok(Value::Transform(curve.value_at(time, evaluator)?)),
         }
     }
 }

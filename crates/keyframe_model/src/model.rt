@@ -6,6 +6,7 @@ ghost use Rattle.micro_time.specs.Timings.{is_done, curve_time};
 use crate::{CurveOf, Value};
 use anim_delegate::Policy;
 use anim_names::{ElementId, GroupId, ModelId, Property, TimelineId};
+use easing_fixed::{EasingFunction, Evaluator};
 use micro_time::Timing;
 use std::alloc::AllocError;
 use std::marker::Model;
@@ -13,7 +14,7 @@ use std::marker::Model;
 /// A keyframe model: a curve of one property of one element, when it runs, and what becomes of it once it ended.
 ///
 /// It belongs to a group, whose models start and finish together, and never changes. Contracts see it as plain data.
-#[derive(Debug, Drop)]
+#[derive(Debug)]
 pub struct ModelSpec {
     id: ModelId,
     group: GroupId,
@@ -37,6 +38,21 @@ impl Model for ModelSpec {
 
     ghost invariant = { λ m.
         IsModel (model_parts m.id m.group m.element m.timeline m.start m.timing m.policy (curve_of m.curve)) };
+}
+
+impl Drop for ModelSpec {
+    fn drop(self) {
+        let ModelSpec {
+            id: _,
+            group: _,
+            element: _,
+            timeline: _,
+            start: _,
+            timing: _,
+            policy: _,
+            curve: _curve,
+        } = self;
+    }
 }
 
 impl ModelSpec {
@@ -150,14 +166,18 @@ impl ModelSpec {
     /// The value at a local time in microseconds. There is none exactly where the timing gives no time of the curve:
     /// before or after the iterations without the fill for it.
     #[tactic(auto, unfolding(crate::specs::Models::model_value))]
-    pub fn value(&self, local: i64) -> Result<Option<Value>, AllocError>
+    pub fn value<E: EasingFunction>(
+        &self,
+        local: i64,
+        evaluator: &Evaluator<E>,
+    ) -> Result<Option<Value>, AllocError>
         requires { unsigned_abs local ≤ LARGEST_LOCAL }
         ensures value { IfOk result (λ value. option_map value_of value ≡ model_value self.now local) }
         ensures none { IfOk result (λ value. IsNone value ↔ (curve_time self.now.timing local ≡ None)) }
         ensures without_memory { property_of self.now ≡ Property.Opacity → IsOk result }
     {
         match self.timing.curve_time(local) {
-            Some(time) => Ok(Some(self.curve.value_at(time)?)),
+            Some(time) => Ok(Some(self.curve.value_at(time, evaluator)?)),
             None => Ok(None),
         }
     }

@@ -1,9 +1,11 @@
+ghost use Rattle.easing_fixed.specs.Evaluators.{MayEase, Eases};
+
 use super::*;
 use anim_delegate::Policy;
 use anim_names::{ElementId, GroupId, ModelId, Property, TimelineId};
 use curve_keys::{Curve, Key};
-use easing_fixed::Easing;
-use micro_time::{Direction, Fill, Iterations, Timing};
+use easing_fixed::{Easing, EasingFunction, Evaluator};
+use micro_time::{Direction, Fill, Iterations, LARGEST_LOCAL, LONGEST_DURATION, Timing};
 use std::alloc::Global;
 use std::process::Abort;
 use std::test::Fail;
@@ -46,7 +48,7 @@ fn fade(rt: &impl Abort, alloc: Global) -> Result<CurveOf, Fail> {
         key(0, Easing::ease_out(), none),
         key(DURATION, Easing::Linear, full),
     ]?;
-    assert!(rt; keys.iter().all(|key| key.time <= 1 << 36));
+    assert!(rt; keys.iter().all(|key| key.time <= LONGEST_DURATION));
     Ok(CurveOf::Opacity(Curve::new(keys, Easing::Linear)?))
 }
 
@@ -64,13 +66,26 @@ fn slide(rt: &impl Abort, alloc: Global) -> Result<CurveOf, Fail> {
         key(0, Easing::ease_out(), from),
         key(DURATION, Easing::Linear, to),
     ]?;
-    assert!(rt; keys.iter().all(|key| key.time <= 1 << 36));
+    assert!(rt; keys.iter().all(|key| key.time <= LONGEST_DURATION));
     Ok(CurveOf::Transform(Curve::new(keys, Easing::Linear)?))
 }
 
+fn value_by<E: EasingFunction + Drop>(
+    rt: &impl Abort,
+    function: E,
+    model: &ModelSpec,
+    local: i64,
+) -> Result<Option<Value>, Fail>
+    requires may_be_called { MayEase (E.asks function) }
+    requires exact { Eases (E.answers function) }
+{
+    assert!(rt; local.unsigned_abs() <= LARGEST_LOCAL);
+    let evaluator = Evaluator::new(function);
+    Ok(model.value(local, &evaluator)?)
+}
+
 fn opacity_at(rt: &impl Abort, model: &ModelSpec, local: i64) -> Result<Option<u32>, Fail> {
-    assert!(rt; local.unsigned_abs() <= 1 << 52);
-    let value = model.value(local)?;
+    let value = value_by(rt, Easing::value, model, local)?;
     match &value {
         Some(Value::Opacity(opacity)) => Ok(Some(opacity.get())),
         _ => Ok(None),
@@ -79,8 +94,7 @@ fn opacity_at(rt: &impl Abort, model: &ModelSpec, local: i64) -> Result<Option<u
 
 // How far down the element is, where its transform is one translation.
 fn y_at(rt: &impl Abort, model: &ModelSpec, local: i64) -> Result<Option<i64>, Fail> {
-    assert!(rt; local.unsigned_abs() <= 1 << 52);
-    let value = model.value(local)?;
+    let value = value_by(rt, Easing::value, model, local)?;
     match &value {
         Some(Value::Transform(list)) => y_of(rt, list),
         _ => Ok(None),

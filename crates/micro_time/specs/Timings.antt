@@ -86,7 +86,7 @@ elapsed t local = local +ℤ t.offset
 abbrev pub covered : TimingParts → ℤ → ℕ
 covered t local = unsigned_abs (elapsed t local) * unsigned_abs t.rate
 
--- the length of all iterations; 0 stands where they are infinite
+-- the length of all iterations; 0 where they are infinite
 abbrev pub total_length : Iterations → ℕ → ℕ
 total_length (Finite count) duration = duration * count
 total_length Infinite duration = 0
@@ -109,7 +109,7 @@ is_after After = true
 unfoldable pub is_done : TimingParts → ℤ → Bool
 is_done t local = is_after (phase t local)
 
--- ---- the place in the iterations
+-- ---- the position in the iterations
 
 -- what length of iterations is over: none before them, all of them after
 abbrev pub progress_in : Phase → TimingParts → ℤ → ℕ
@@ -121,27 +121,27 @@ progress_in After t local = total t
 abbrev pub skipped : TimingParts → ℕ
 skipped t = t.iteration_start * t.duration
 
--- the place, counted from the beginning of iteration 0; a negative rate goes from the end of the iterations back
-abbrev pub place_in : Phase → TimingParts → ℤ → ℕ
-place_in phase t local =
+-- the position, counted from the beginning of iteration 0; a negative rate goes from the end of the iterations back
+abbrev pub position_in : Phase → TimingParts → ℤ → ℕ
+position_in phase t local =
     (if is_negative t.rate then total t - progress_in phase t local else progress_in phase t local) + skipped t
 
 -- the length of one iteration
 abbrev pub one_iteration : TimingParts → ℕ
 one_iteration t = t.duration * 1000
 
--- the place is the end of all iterations, there are some, and it is the end of one of them too
+-- the position is the end of all iterations, there are some, and it is the end of one of them too
 abbrev pub is_last_end : TimingParts → ℕ → Bool
-is_last_end t place =
-    is_finite t.iterations && nat_lt 0 (total t) && place % one_iteration t == 0 && place == total t + skipped t
+is_last_end t position =
+    is_finite t.iterations && nat_lt 0 (total t) && position % one_iteration t == 0 && position == total t + skipped t
 
--- which iteration the place is in; the last end belongs to the iteration that it ends
+-- which iteration the position is in; the last end belongs to the iteration that it ends
 abbrev pub iteration_at : TimingParts → ℕ → ℕ
-iteration_at t place = if is_last_end t place then place / one_iteration t - 1 else place / one_iteration t
+iteration_at t position = if is_last_end t position then position / one_iteration t - 1 else position / one_iteration t
 
 -- what length of that iteration is over
 abbrev pub part_at : TimingParts → ℕ → ℕ
-part_at t place = if is_last_end t place then one_iteration t else place % one_iteration t
+part_at t position = if is_last_end t position then one_iteration t else position % one_iteration t
 
 -- ---- the curve time
 
@@ -151,10 +151,10 @@ is_backwards Reverse iteration = true
 is_backwards Alternate iteration = iteration % 2 == 1
 is_backwards AlternateReverse iteration = iteration % 2 == 0
 
--- the time of the curve at this place, in whole microseconds
+-- the time of the curve at this position, in whole microseconds
 abbrev pub time_at : TimingParts → ℕ → ℕ
-time_at t place =
-    (if is_backwards t.direction (iteration_at t place) then one_iteration t - part_at t place else part_at t place) / 1000
+time_at t position =
+    (if is_backwards t.direction (iteration_at t position) then one_iteration t - part_at t position else part_at t position) / 1000
 
 abbrev pub fills_backwards : Fill → Bool
 fills_backwards Neither = false
@@ -175,7 +175,7 @@ is_shown_in Active fill = true
 is_shown_in After fill = fills_forwards fill
 
 abbrev pub curve_time_in : Phase → TimingParts → ℤ → Option ℕ
-curve_time_in phase t local = if is_shown_in phase t.fill then Some (time_at t (place_in phase t local)) else None
+curve_time_in phase t local = if is_shown_in phase t.fill then Some (time_at t (position_in phase t local)) else None
 
 -- the time of the curve whose value shows, where one does
 unfoldable pub curve_time : TimingParts → ℤ → Option ℕ

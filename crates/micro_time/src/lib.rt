@@ -1,7 +1,7 @@
-//! When an animation runs, and where in its curve it stands: exact, in whole numbers, without memory.
+//! When an animation runs, and at which time of its curve it is: exact, in whole numbers, without memory.
 //!
 //! A [`Timing`] keeps its parts within their ranges. At each local time it says whether the animation is yet
-//! to come, runs or is over ([`Timing::phase`]), and at which time of the curve it stands, if it shows at all
+//! to come, runs or is over ([`Timing::phase`]), and at which time of the curve it is, if it shows at all
 //! ([`Timing::curve_time`]). Contracts see a timing as its parts, and cite `phase` and `curve_time` of them.
 //! Times are in microseconds; iterations and rate are in thousandths.
 #![tactic(auto)]

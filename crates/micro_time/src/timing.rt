@@ -2,7 +2,7 @@ ghost use Rattle.std.specs.Prelude.{◌≡◌, ◌+◌, ◌*◌, ◌^◌, ◌<�
 ghost use Rattle.std.specs.Result.{result_err};
 ghost use Rattle.micro_time.specs.declared.TheConstants.{LARGEST_LOCAL};
 ghost use Rattle.micro_time.specs.Timings.{timing_parts, refusal, IsTiming, phase, is_done, curve_time};
-ghost use Rattle.micro_time.specs.Timings.{elapsed, covered, total, progress_in, skipped, place_in};
+ghost use Rattle.micro_time.specs.Timings.{elapsed, covered, total, progress_in, skipped, position_in};
 ghost use Rattle.micro_time.specs.Timings.{one_iteration, is_last_end, iteration_at, part_at, time_at};
 
 use crate::{Direction, Fill, Iterations, Phase, TimingFault, TimingField};
@@ -13,7 +13,8 @@ use std::marker::Model;
 ///
 /// The equations follow the outline of cc/animation and of Web Animations: a local time and the offset make the time
 /// that has elapsed, this and the rate make the progress, and the progress gives an iteration and a part of it. The
-/// units and ranges, that nothing is rounded before the last step, and the rule for the fill are this project's own.
+/// units and ranges, that nothing is rounded before the last step, and the rule for the fill are this project's own. A timing does not know when its animation starts: local times count from
+/// there.
 #[derive(Clone, Copy, Debug, PartialEq, Eq, Hash)]
 pub struct Timing {
     duration: u64,
@@ -99,7 +100,7 @@ impl Timing {
     pub fn duration(&self) -> u64
         ensures value { result ≡ self.now.duration }
 
-        // What holds of every timing: `new` would take its parts.
+        // So are the parts of every timing.
         ensures in_range { IsTiming self.now }
     {
         self.duration
@@ -181,7 +182,7 @@ impl Timing {
     {
         let phase = self.phase(local);
         if self.fill.is_shown(phase) {
-            Some(self.time_at(self.place(phase, local)))
+            Some(self.time_at(self.position(phase, local)))
         } else {
             None
         }
@@ -245,10 +246,10 @@ impl Timing {
         u128::from(self.iteration_start) * u128::from(self.duration)
     }
 
-    // The place in the iterations, counted from the beginning of iteration 0.
-    fn place(&self, phase: Phase, local: i64) -> u128
+    // The position in the iterations, counted from the beginning of iteration 0.
+    fn position(&self, phase: Phase, local: i64) -> u128
         requires { unsigned_abs local ≤ LARGEST_LOCAL }
-        ensures value { result ≡ place_in phase self.now local }
+        ensures value { result ≡ position_in phase self.now local }
         ensures size { result < 2 ^ 73 }
     {
         let progress = self.progress(phase, local);
@@ -268,20 +269,20 @@ impl Timing {
         u128::from(self.duration) * 1000
     }
 
-    // Whether this place is the end of all iterations and of one of them, which it then still belongs to.
-    fn is_last_end(&self, place: u128) -> bool
-        ensures { result ≡ is_last_end self.now place }
+    // Whether this position is the end of all iterations and of one of them, which it then still belongs to.
+    fn is_last_end(&self, position: u128) -> bool
+        ensures { result ≡ is_last_end self.now position }
     {
         let total = self.total();
-        total > 0 && place % self.one_iteration() == 0 && place == total + self.skipped()
+        total > 0 && position % self.one_iteration() == 0 && position == total + self.skipped()
     }
 
-    // Which iteration the place is in.
-    fn iteration_at(&self, place: u128) -> u128
-        ensures { result ≡ iteration_at self.now place }
+    // Which iteration the position is in.
+    fn iteration_at(&self, position: u128) -> u128
+        ensures { result ≡ iteration_at self.now position }
     {
-        let iteration = place / self.one_iteration();
-        if self.is_last_end(place) {
+        let iteration = position / self.one_iteration();
+        if self.is_last_end(position) {
             iteration.saturating_sub(1)
         } else {
             iteration
@@ -289,23 +290,23 @@ impl Timing {
     }
 
     // What length of that iteration is over.
-    fn part_at(&self, place: u128) -> u128
-        ensures value { result ≡ part_at self.now place }
+    fn part_at(&self, position: u128) -> u128
+        ensures value { result ≡ part_at self.now position }
         ensures within { result ≤ one_iteration self.now }
     {
-        if self.is_last_end(place) {
+        if self.is_last_end(position) {
             return self.one_iteration();
         }
-        place % self.one_iteration()
+        position % self.one_iteration()
     }
 
-    // The time of the curve at this place.
-    fn time_at(&self, place: u128) -> u64
-        ensures value { result ≡ time_at self.now place }
+    // The time of the curve at this position.
+    fn time_at(&self, position: u128) -> u64
+        ensures value { result ≡ time_at self.now position }
         ensures within { result ≤ self.now.duration }
     {
-        let part = self.part_at(place);
-        let directed = if self.direction.is_backwards(self.iteration_at(place)) {
+        let part = self.part_at(position);
+        let directed = if self.direction.is_backwards(self.iteration_at(position)) {
             self.one_iteration() - part
         } else {
             part

@@ -7,9 +7,14 @@ use tree_commit::Commit;
 /// The commit that was pulled and waits for its activation, where there is one.
 ///
 /// The compositor has one pending tree. A contract sees the commit, or none.
-#[derive(Drop)]
 pub struct PendingTree {
     commit: Option<Arc<Commit>>,
+}
+
+impl Drop for PendingTree {
+    fn drop(self) {
+        let PendingTree { commit: _commit } = self;
+    }
 }
 
 impl Model for PendingTree {

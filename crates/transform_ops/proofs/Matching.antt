@@ -1,4 +1,4 @@
--- The places from the front that hold operations that match, and the blend of two lists up to there and from there on.
+-- How many operations from the front match, and the blend of two lists up to there and from there on.
 use Rattle.std.proofs.Common.{◌≡◌, ℕ, zero, suc, ◌+◌, ◌<◌, ◌≤◌, min, get_or, Bool, true, false, if◌then◌else◌, cond, ℤ, List, [], ◌∷◌, ◌++◌, map, length, take, drop, refl, arith, ap, sym, ◌∙◌}
 use Rattle.std.specs.List.{take_while, prefix_len, zip}
 use Rattle.std.proofs.lemmas.List.Folds.{length-prefix_len}
@@ -16,8 +16,8 @@ prefix_len-zip [] to = refl
 prefix_len-zip (a ∷ from) [] = refl
 prefix_len-zip (a ∷ from) (b ∷ to) = ap (λ n. cond (matches a b) (1 + n) 0) (prefix_len-zip from to)
 
-pub matching_places : (from to : List TransformOp) → length (take_while pair_matches (zip from to)) ≡ match_len from to
-matching_places from to = length-prefix_len pair_matches (zip from to) ∙ prefix_len-zip from to
+pub match_count : (from to : List TransformOp) → length (take_while pair_matches (zip from to)) ≡ match_len from to
+match_count from to = length-prefix_len pair_matches (zip from to) ∙ prefix_len-zip from to
 
 pub match_len-within : (from to : List TransformOp) → (match_len from to ≤ length from) × (match_len from to ≤ length to)
 match_len-within from to =
@@ -26,7 +26,7 @@ match_len-within from to =
     let pairs = length-zip from to in
     (omega arith, omega arith)
 
--- the blends of the first n operations, place by place
+-- the blends of the first n operations, one by one
 abbrev pub front : ℕ → List TransformOp → List TransformOp → ℤ → List TransformOp
 front n from to progress = map (λ (p : TransformOp × TransformOp). blend_operations p.0 p.1 progress) (zip (take n from) (take n to))
 

@@ -1,4 +1,4 @@
--- Lists of operations: their blend, place by place from the front, and when two lists move alike.
+-- Lists of operations: their blend, one by one from the front, and when two lists move alike.
 use Rattle.std.specs.Prelude.{◌≡◌, ℕ, ◌+◌, ◌/◌, ◌≤◌, nat_lt, not, if◌then◌else◌, ℤ, pos, int_lt, List, [], ◌∷◌, map, length, Option, Some, None}
 use Rattle.std.specs.List.{AllByRecursion, list_all}
 use Rattle.value_blend.specs.declared.TheConstants.{ONE}
@@ -20,7 +20,7 @@ list_refusal ops =
     if not (list_all is_operation ops) then Some OutOfRange else
     None
 
--- how many places from the front hold operations that match
+-- how many operations from the front match
 abbrev pub match_len : List TransformOp → List TransformOp → ℕ
 match_len [] to = 0
 match_len (a ∷ from) [] = 0
@@ -31,7 +31,7 @@ abbrev pub nearer_list : List TransformOp → List TransformOp → ℤ → List 
 nearer_list from to progress = if int_lt progress (pos (ONE / 2)) then from else to
 
 -- The blend of two lists. Operations that match blend one by one. Where one list has ended, each operation that the
--- other has left blends with its neutral one. From the first place on that does not match, all is of the nearer list.
+-- other has left blends with its neutral one. From the first two on that do not match, all is of the nearer list.
 abbrev pub blend_lists : List TransformOp → List TransformOp → ℤ → List TransformOp
 blend_lists [] to progress = map (λ b. blend_operations (neutral_of b) b progress) to
 blend_lists (a ∷ from) [] progress = map (λ a. blend_operations a (neutral_of a) progress) (a ∷ from)

@@ -66,7 +66,7 @@ impl TransformList {
         self.ops.is_empty()
     }
 
-    /// The operation at a place, which counts from 0.
+    /// The operation of this index, which counts from 0.
     pub fn op(&self, i: usize) -> TransformOp
         requires { i < length self.now }
         ensures { slice_get self.now i ≡ Some result }
@@ -74,8 +74,8 @@ impl TransformList {
         self.ops[i]
     }
 
-    /// How many places from the front hold operations that match.
-    #[tactic(auto, using(crate::proofs::Matching::matching_places))]
+    /// How many operations from the front match those of the other list.
+    #[tactic(auto, using(crate::proofs::Matching::match_count))]
     pub fn match_len(&self, other: &TransformList) -> usize
         ensures value { result ≡ match_len self.now other.now }
         ensures within { result ≤ length self.now }
@@ -127,7 +127,7 @@ impl Blend for TransformList {
 /// Half of the way, from which on the second of two lists that can't be blended is the nearer one.
 const HALF: i64 = ONE as i64 / 2;
 
-// How many places from the front hold operations that match.
+// How many operations from the front match.
 fn count_matching(from: &[TransformOp], to: &[TransformOp]) -> usize
     ensures { result ≡ length (take_while (λ p. matches p.0 p.1) (zip from.now to.now)) }
 {
@@ -145,7 +145,7 @@ fn are_in_range(ops: &[TransformOp]) -> bool
     ops.iter().all(|op| op.is_in_range())
 }
 
-// Pushes the blends of the operations, place by place, up to the end of the shorter list.
+// Pushes the blends of the operations, one by one, up to the end of the shorter list.
 fn push_pairs(
     ops: &mut Vec<TransformOp>,
     from: &[TransformOp],

@@ -8,10 +8,19 @@ use value_blend::Opacity;
 /// What an element shows where no keyframe model animates it.
 ///
 /// The list is shared: every commit that has the element in this state points to one list.
-#[derive(Debug, Drop)]
+#[derive(Debug)]
 pub struct Base {
     pub opacity: Opacity,
     pub transform: Arc<TransformList>,
+}
+
+impl Drop for Base {
+    fn drop(self) {
+        let Base {
+            opacity: _,
+            transform: _transform,
+        } = self;
+    }
 }
 
 impl Clone for Base {

@@ -7,7 +7,7 @@ use transform_ops::TransformList;
 use value_blend::Opacity;
 
 /// One change of main's tree.
-#[derive(Debug, Drop)]
+#[derive(Debug)]
 pub enum Edit {
     /// Adds an element, last.
     AddElement {
@@ -41,4 +41,21 @@ pub enum Edit {
     RemoveModel {
         id: ModelId,
     },
+}
+
+impl Drop for Edit {
+    fn drop(self) {
+        match self {
+            Edit::AddElement { id: _, base: _base } => {}
+            Edit::RemoveElement { id: _ } => {}
+            Edit::SetOpacity { id: _, opacity: _ } => {}
+            Edit::SetTransform {
+                id: _,
+                transform: _transform,
+            } => {}
+            Edit::AddTimeline { id: _, timeline: _ } => {}
+            Edit::AddModel { spec: _spec } => {}
+            Edit::RemoveModel { id: _ } => {}
+        }
+    }
 }

@@ -12,13 +12,25 @@ use std::alloc::{AllocError, Global};
 /// What all models ever added to a group have in common, and which properties they animate.
 ///
 /// It does not know the group's own id, nor which of the models are still there.
-#[derive(Debug, Drop)]
+#[derive(Debug)]
 pub struct GroupShape {
     element: ElementId,
     timeline: TimelineId,
     start: Option<u64>,
     properties: Vec<Property>,
     commits_before: u32,
+}
+
+impl Drop for GroupShape {
+    fn drop(self) {
+        let GroupShape {
+            element: _,
+            timeline: _,
+            start: _,
+            properties: _properties,
+            commits_before: _,
+        } = self;
+    }
 }
 
 impl GroupShape {
@@ -75,7 +87,9 @@ impl GroupShape {
     fn has(&self, property: Property) -> bool
         ensures { result ≡ list_any (same_property property) self.now.properties.items }
     {
-        self.properties.iter().any(|other| is_same(property, *other))
+        self.properties
+            .iter()
+            .any(|other| is_same(property, *other))
     }
 }
 

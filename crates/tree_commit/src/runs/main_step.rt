@@ -1,7 +1,7 @@
 use crate::Edit;
 
 /// One step of main.
-#[derive(Debug, Drop)]
+#[derive(Debug)]
 pub enum MainStep {
     /// Change main's tree.
     Edit(Edit),
@@ -9,4 +9,14 @@ pub enum MainStep {
     Commit,
     /// Hear what happened since the last drain.
     Drain,
+}
+
+impl Drop for MainStep {
+    fn drop(self) {
+        match self {
+            MainStep::Edit(_edit) => {}
+            MainStep::Commit => {}
+            MainStep::Drain => {}
+        }
+    }
 }

@@ -1,0 +1,55 @@
+//! The compositor's two trees.
+
+use crate::samples;
+use active_tree::ActiveTree;
+use anim_names::ElementId;
+use pending_tree::PendingTree;
+use std::process::Abort;
+use std::test::Fail;
+use transform_ops::TransformOp;
+use tree_commit::Frame;
+
+#[test]
+fn a_pending_commit_stands_until_it_is_taken(rt: HostRuntime) -> Result<(), Fail> {
+    let mut pending = PendingTree::new();
+    assert!(rt; pending.commit().is_none());
+    assert!(rt; pending.take().is_none());
+    pending.put(samples::bare_commit(rt.alloc(), 3)?);
+    let seen = pending.commit().ok_or("no commit")?;
+    assert!(rt; seen.number() == 3);
+    let taken = pending.take().ok_or("no commit")?;
+    assert!(rt; taken.number() == 3);
+    assert!(rt; pending.commit().is_none());
+    Ok(())
+}
+
+#[test]
+fn at_first_a_frame_shows_nothing(rt: HostRuntime) -> Result<(), Fail> {
+    let mut active = ActiveTree::new(rt.alloc())?;
+    assert!(rt; active.commit().number() == 0);
+    let frame = active.frame(16_000)?;
+    assert!(rt; frame.time() == 16_000);
+    assert!(rt; frame.commit() == 0);
+    assert!(rt; frame.row_count() == 0);
+    Ok(())
+}
+
+#[test]
+fn a_frame_shows_what_is_each_elements_own(rt: HostRuntime) -> Result<(), Fail> {
+    let mut active = ActiveTree::new(rt.alloc())?;
+    active.set(samples::small_commit(rt.alloc(), 1)?);
+    let frame = active.frame(16_000)?;
+    expect_own_row(&rt, &frame);
+    Ok(())
+}
+
+// Element 7, half opaque and moved, in commit 1.
+fn expect_own_row(rt: &impl Abort, frame: &Frame) {
+    assert!(rt; frame.commit() == 1);
+    assert!(rt; frame.row_count() == 1);
+    let row = frame.row(0);
+    assert!(rt; row.element == ElementId(7));
+    assert!(rt; row.opacity.get() == 500_000);
+    assert!(rt; row.transform.len() == 1);
+    assert!(rt; row.transform.op(0) == TransformOp::Translate { x: 1, y: 2, z: 3 });
+}
