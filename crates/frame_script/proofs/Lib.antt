@@ -1,2 +1,4 @@
 pub mod Cuts
 pub mod Opened
+pub mod Keys
+pub mod Books

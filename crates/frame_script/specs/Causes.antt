@@ -2,6 +2,7 @@
 use Rattle.std.specs.Prelude.{◌≡◌, ℕ, Bool, true, false, Option, Some, None, Result, Ok, Err}
 use Rattle.script_fields.specs.declared.fault.FieldFault.{FieldFault}
 use Rattle.script_fields.specs.declared.fault.FieldFault.TheVariants as field
+use Rattle.script_fields.specs.Fields.{◌>>=◌}
 use Rattle.frame_script.specs.declared.cause.Cause.{Cause}
 use Rattle.frame_script.specs.declared.cause.Cause.TheVariants.{BadLine, BadNumber}
 use Rattle.frame_script.specs.declared.fault.LineFault.{LineFault}
@@ -29,6 +30,10 @@ cause_of field.BadNumber = BadNumber
 abbrev pub caused : {A : Type 0} → Result A FieldFault → Result A Cause
 caused (Ok x) = Ok x
 caused (Err fault) = Err (cause_of fault)
+
+-- what follows from what was read, as a word of clauses
+abbrev pub read_then : {A B : Type 0} → Result A Cause → (A → Result B Cause) → Result B Cause
+read_then read more = read >>= more
 
 -- a script is refused at a line, for a cause
 pub record Refusal : Type 0 where

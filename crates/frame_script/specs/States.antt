@@ -12,7 +12,7 @@ use Rattle.micro_time.specs.Timings.{TimingParts}
 use Rattle.easing_fixed.specs.declared.easing.Easing.{Easing}
 use Rattle.transform_ops.specs.declared.op.TransformOp.{TransformOp}
 use Rattle.curve_keys.specs.declared.key.Key.{Key}
-use Rattle.curve_keys.specs.Curves.{keyframes, last_time, curve_refusal}
+use Rattle.curve_keys.specs.Curves.{Keyframes, keyframes, last_time, curve_refusal}
 use Rattle.keyframe_model.specs.Models.{PropertyCurve, OpacityCurve, TransformCurve, Spec, model_parts, curve_duration}
 use Rattle.tree_commit.specs.declared.edits.refusal.EditRefusal.TheVariants.{Limit}
 use Rattle.tree_commit.specs.declared.runs.compositor_step.CompositorStep.{CompositorStep}
@@ -73,14 +73,20 @@ step_refusal book (EditStep change) = option_map Edit (edit_refusal book change)
 step_refusal book CommitStep = if nat_lt book.commits MOST_COMMITS then None else Some (Edit (Limit Commits))
 step_refusal book DrainStep = None
 
-abbrev pub with_step : ScriptLists → StepOfMain → ScriptLists
-with_step script step = record script { main = script.main ++ step ∷ [] }
+-- main's steps with one more, where it may be made
+unfoldable pub main_with : List StepOfMain → StepOfMain → Result (List StepOfMain) Cause
+main_with steps step = do
+  room ← demand (has_room steps) (Edit (Limit Steps))
+  allowed ← allow (step_refusal (book_of steps) step)
+  Ok (steps ++ step ∷ [])
+
+abbrev pub with_main : ScriptLists → List StepOfMain → ScriptLists
+with_main script steps = record script { main = steps }
 
 unfoldable pub step_made : ScriptLists → StepOfMain → Result ScriptState Cause
 step_made script step = do
-  room ← demand (has_room script.main) (Edit (Limit Steps))
-  allowed ← allow (step_refusal (book_of script.main) step)
-  Ok (at InMain (with_step script step))
+  steps ← main_with script.main step
+  Ok (at InMain (with_main script steps))
 
 -- ---- models
 
@@ -92,11 +98,16 @@ abbrev pub names_refusal : Book → ModelNames → Option Cause
 names_refusal book names =
     option_map Edit (model_refusal book names.id names.group names.element names.timeline names.start names.property)
 
+-- a model of these names may be added after main's steps
+unfoldable pub model_allowed : List StepOfMain → ModelNames → Result (Unit {0}) Cause
+model_allowed steps names = do
+  room ← demand (has_room steps) (Edit (Limit Steps))
+  allow (names_refusal (book_of steps) names)
+
 -- the line of a model is judged as the adding of that model, before its keys
 unfoldable pub model_begun : ScriptLists → ModelLine → Result ScriptState Cause
 model_begun script line = do
-  room ← demand (has_room script.main) (Edit (Limit Steps))
-  allowed ← allow (names_refusal (book_of script.main) line.names)
+  allowed ← model_allowed script.main line.names
   Ok (at (InModel line (no_keys line.names.property)) script)
 
 -- the first key is at time 0, and each further one later than the one before
@@ -119,12 +130,12 @@ key_count (OpacityKeys keys) = length keys
 key_count (TransformKeys keys) = length keys
 
 -- the curve through the keys, where they make one
-abbrev pub curve_of_keys : {V : Type 0} → List (Key V) → (List (Key V) → PropertyCurve) → Result PropertyCurve Cause
-curve_of_keys keys curve = if is_none (curve_refusal keys) then Ok (curve keys) else Err BadCurve
+unfoldable pub taken_curve : {V : Type 0} → Easing → List (Key V) → Result (Keyframes V) Cause
+taken_curve easing keys = if is_none (curve_refusal keys) then Ok (keyframes keys easing) else Err BadCurve
 
-unfoldable pub curve_through : Easing → PropertyKeys → Result PropertyCurve Cause
-curve_through easing (OpacityKeys keys) = curve_of_keys keys (λ keys. OpacityCurve (keyframes keys easing))
-curve_through easing (TransformKeys keys) = curve_of_keys keys (λ keys. TransformCurve (keyframes keys easing))
+abbrev pub curve_through : Easing → PropertyKeys → Result PropertyCurve Cause
+curve_through easing (OpacityKeys keys) = taken_curve easing keys >>= λ curve. Ok (OpacityCurve curve)
+curve_through easing (TransformKeys keys) = taken_curve easing keys >>= λ curve. Ok (TransformCurve curve)
 
 -- the timing, lasting as long as the keys
 abbrev pub lasting : ℕ → TimingParts → TimingParts
@@ -136,11 +147,16 @@ model_with line curve =
     model_parts line.names.id line.names.group line.names.element line.names.timeline line.names.start
     (lasting (curve_duration curve) line.timing) line.policy curve
 
+unfoldable pub model_through : ModelLine → PropertyKeys → Result Spec Cause
+model_through line keys = do
+  curve ← curve_through line.easing keys
+  Ok (model_with line curve)
+
 -- The last key of a model makes it a step of main.
 unfoldable pub model_made : ScriptLists → ModelLine → PropertyKeys → Result ScriptState Cause
 model_made script line keys = do
-  curve ← curve_through line.easing keys
-  step_made script (EditStep (AddModel (model_with line curve)))
+  model ← model_through line keys
+  step_made script (EditStep (AddModel model))
 
 abbrev pub after_key : ScriptLists → ModelLine → PropertyKeys → Result ScriptState Cause
 after_key script line keys =
@@ -182,14 +198,20 @@ compositor_refusal elements ticks Pull = None
 compositor_refusal elements ticks Activate = None
 compositor_refusal elements ticks (Tick time) = tick_refusal elements ticks time
 
-abbrev pub with_compositor_step : ScriptLists → CompositorStep → ScriptLists
-with_compositor_step script step = record script { compositor = script.compositor ++ step ∷ [] }
+-- the compositor's steps with one more, where it may be made and so many elements were ever added
+unfoldable pub compositor_with : ℕ → List CompositorStep → CompositorStep → Result (List CompositorStep) Cause
+compositor_with elements steps step = do
+  room ← demand (has_room steps) (Edit (Limit Steps))
+  allowed ← allow (compositor_refusal elements (ticks_of steps) step)
+  Ok (steps ++ step ∷ [])
+
+abbrev pub with_compositor : ScriptLists → List CompositorStep → ScriptLists
+with_compositor script steps = record script { compositor = steps }
 
 unfoldable pub compositor_made : ScriptLists → CompositorStep → Result ScriptState Cause
 compositor_made script step = do
-  room ← demand (has_room script.compositor) (Edit (Limit Steps))
-  allowed ← allow (compositor_refusal (book_of script.main).elements_added (ticks_of script.compositor) step)
-  Ok (at InCompositor (with_compositor_step script step))
+  steps ← compositor_with (book_of script.main).elements_added script.compositor step
+  Ok (at InCompositor (with_compositor script steps))
 
 -- ---- the word
 

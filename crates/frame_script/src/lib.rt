@@ -2,14 +2,21 @@
 #![tactic(auto)]
 
 mod cause;
+mod compositor_part;
 mod compositor_said;
+mod draft;
 mod edit_said;
 mod fault;
+mod key_list;
 mod key_said;
 mod key_value;
 mod lines;
+mod main_part;
 mod model_line;
 mod model_said;
+mod model_with;
+mod reader;
+mod word;
 pub mod worked;
 
 pub use cause::Cause;

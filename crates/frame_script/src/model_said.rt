@@ -22,7 +22,8 @@ const FIELDS: usize = 15;
 /// What the line of a model says, by the fields behind its name.
 #[tactic(auto, unfolding(crate::specs::Said::model_said))]
 pub(crate) fn model_said(alloc: Global, fields: &[&[u8]]) -> Result<ModelLine, LineFault>
-    ensures { Gives (λ line. line) result (said.model_said (map (λ field. field.now) fields.now)) }
+    ensures value { Gives (λ line. line) result (said.model_said (map (λ field. field.now) fields.now)) }
+    ensures start { IfOk result (λ line. IfSome line.names.start (λ time. time ≤ LAST_TIME)) }
 {
     if fields.len() == FIELDS {
         after_model(alloc, fields)
@@ -32,7 +33,8 @@ pub(crate) fn model_said(alloc: Global, fields: &[&[u8]]) -> Result<ModelLine, L
 }
 
 fn after_model(alloc: Global, fields: &[&[u8]]) -> Result<ModelLine, LineFault>
-    ensures { Gives (λ line. line) result (said.after_model (map (λ field. field.now) fields.now)) }
+    ensures value { Gives (λ line. line) result (said.after_model (map (λ field. field.now) fields.now)) }
+    ensures start { IfOk result (λ line. IfSome line.names.start (λ time. time ≤ LAST_TIME)) }
 {
     match fields {
         [id, group, element, timeline, property, start, more @ ..] => {
@@ -89,7 +91,9 @@ fn after_names(
     names: &ModelNames,
     fields: &[&[u8]],
 ) -> Result<ModelLine, LineFault>
-    ensures { Gives (λ line. line) result (said.after_names names.now (map (λ field. field.now) fields.now)) }
+    requires { IfSome names.now.start (λ time. time ≤ LAST_TIME) }
+    ensures value { Gives (λ line. line) result (said.after_names names.now (map (λ field. field.now) fields.now)) }
+    ensures start { IfOk result (λ line. IfSome line.names.start (λ time. time ≤ LAST_TIME)) }
 {
     match fields {
         [offset, iterations, start, direction, fill, rate, more @ ..] => {
@@ -157,7 +161,9 @@ fn after_numbers(
     numbers: TimingNumbers,
     fields: &[&[u8]],
 ) -> Result<ModelLine, LineFault>
-    ensures { Gives (λ line. line) result (said.after_numbers names.now numbers (map (λ field. field.now) fields.now)) }
+    requires { IfSome names.now.start (λ time. time ≤ LAST_TIME) }
+    ensures value { Gives (λ line. line) result (said.after_numbers names.now numbers (map (λ field. field.now) fields.now)) }
+    ensures start { IfOk result (λ line. IfSome line.names.start (λ time. time ≤ LAST_TIME)) }
 {
     match fields {
         [policy, easing, keys] => curve_line_said(alloc, names, numbers, policy, easing, keys),
@@ -174,7 +180,9 @@ fn curve_line_said(
     easing: &[u8],
     keys: &[u8],
 ) -> Result<ModelLine, LineFault>
-    ensures { Gives (λ line. line) result (said.curve_line_said names.now numbers policy.now easing.now keys.now) }
+    requires { IfSome names.now.start (λ time. time ≤ LAST_TIME) }
+    ensures value { Gives (λ line. line) result (said.curve_line_said names.now numbers policy.now easing.now keys.now) }
+    ensures start { IfOk result (λ line. IfSome line.names.start (λ time. time ≤ LAST_TIME)) }
 {
     let policy = policy_said(policy).ok_or(Cause::BadLine)?;
     let easing = easing_said(alloc, easing)?.ok_or(Cause::BadEasing)?;
