@@ -10,6 +10,7 @@ mod fault;
 mod key_list;
 mod key_said;
 mod key_value;
+pub mod laws;
 mod lines;
 mod main_part;
 mod model_line;
