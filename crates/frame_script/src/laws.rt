@@ -1,7 +1,7 @@
 //! Laws of the definitions: each function's clauses are one, and its body does nothing.
 
 ghost use Rattle.std.specs.Prelude.{◌≡◌, ◌⊎◌, ℕ, List, Ok, Err};
-ghost use Rattle.tree_commit.specs.Scripts.{ScriptLists};
+ghost use Rattle.tree_commit.specs.Scripts.{ScriptLists, IsWellFormed};
 ghost use Rattle.frame_script.specs.declared.cause.Cause.{Cause};
 ghost use Rattle.frame_script.specs.Reading.{refusal, reading};
 ghost use Rattle.frame_script.specs.Texts.{Spells, IsRefusedAt};
@@ -25,4 +25,9 @@ pub fn reading_is_spelling()
     ensures read { (bytes : List ℕ) (script : ScriptLists) → reading bytes ≡ Ok script → Spells bytes script }
     ensures refused { (bytes : List ℕ) (number : ℕ) (cause : Cause) → IsRefusedAt bytes number cause → reading bytes ≡ Err (refusal number cause) }
     ensures stopped { (bytes : List ℕ) (number : ℕ) (cause : Cause) → reading bytes ≡ Err (refusal number cause) → IsRefusedAt bytes number cause }
+{}
+
+/// What is spelled is a well-formed script.
+pub fn spelled_scripts_are_well_formed()
+    ensures { (bytes : List ℕ) (script : ScriptLists) → Spells bytes script → IsWellFormed script }
 {}

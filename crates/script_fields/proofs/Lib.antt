@@ -2,3 +2,4 @@ pub mod Digits
 pub mod Spelled
 pub mod Kept
 pub mod Items
+pub mod Ranges
