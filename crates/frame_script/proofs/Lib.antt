@@ -6,3 +6,6 @@ pub mod Leads
 pub mod Ranges
 pub mod Lasting
 pub mod Sound
+pub mod Steps
+pub mod Prefix
+pub mod Again

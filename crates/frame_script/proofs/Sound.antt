@@ -249,7 +249,7 @@ model_made_fits script line keys next main draft h =
     step_made_fits script (EditStep (AddModel m.0)) next main draft.no_steps model m.2
 
 -- the keys with a further one
-keys_with_fit : (line : ModelLine) (keys more : PropertyKeys) (text : List (List ℕ)) → AreKeysOf line keys → key_count keys < line.keys → keys_with keys text ≡ Ok more
+pub keys_with_fit : (line : ModelLine) (keys more : PropertyKeys) (text : List (List ℕ)) → AreKeysOf line keys → key_count keys < line.keys → keys_with keys text ≡ Ok more
     → AreKeysOf line more × (key_count more ≤ line.keys)
 unfolding keys_with
 keys_with_fit line (OpacityKeys keys) more text are room h =

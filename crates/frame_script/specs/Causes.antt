@@ -7,8 +7,6 @@ use Rattle.frame_script.specs.declared.cause.Cause.{Cause}
 use Rattle.frame_script.specs.declared.cause.Cause.TheVariants.{BadLine, BadNumber}
 use Rattle.frame_script.specs.declared.fault.LineFault.{LineFault}
 use Rattle.frame_script.specs.declared.fault.LineFault.TheVariants as line
-use Rattle.frame_script.specs.declared.fault.ScriptFault.{ScriptFault}
-use Rattle.frame_script.specs.declared.fault.ScriptFault.TheVariants as script
 
 -- ---- what is refused, and why
 
@@ -47,9 +45,3 @@ abbrev pub Gives : {X Y : Type 0} → (X → Y) → Result X LineFault → Resul
 Gives view (Ok x) read = read ≡ Ok (view x)
 Gives view (Err (line.Refused cause)) read = read ≡ Err cause
 Gives view (Err line.NoMemory) read = Unit {0}
-
--- the same of a whole script
-abbrev pub GivesScript : {X Y : Type 0} → (X → Y) → Result X ScriptFault → Result Y Refusal → Type 0
-GivesScript view (Ok x) read = read ≡ Ok (view x)
-GivesScript view (Err (script.Refused line cause)) read = read ≡ Err (record { line = line; cause = cause })
-GivesScript view (Err script.NoMemory) read = Unit {0}

@@ -7,3 +7,4 @@ pub mod Reading
 pub mod Worked
 pub mod Views
 pub mod Books
+pub mod Scripts

@@ -1,10 +1,12 @@
 -- Reading line by line up to the first line that is refused: what the relations of texts come to, as a function.
-use Rattle.std.specs.Prelude.{ℕ, ◌+◌, nat_lt, List, [], ◌∷◌, length, Result, Ok, Err, if◌then◌else◌}
+use Rattle.std.specs.Prelude.{◌≡◌, ℕ, ◌+◌, nat_lt, List, [], ◌∷◌, length, Result, Ok, Err, if◌then◌else◌}
 use Rattle.tree_commit.specs.Scripts.{ScriptLists}
 use Rattle.script_fields.specs.Fields.{◌>>=◌}
 use Rattle.frame_script.specs.declared.TheConstants.{MOST_BYTES}
 use Rattle.frame_script.specs.declared.cause.Cause.{Cause}
 use Rattle.frame_script.specs.declared.cause.Cause.TheVariants.{MissingPart, TooLong}
+use Rattle.frame_script.specs.declared.fault.ScriptFault.{ScriptFault}
+use Rattle.frame_script.specs.declared.fault.ScriptFault.TheVariants as fault
 use Rattle.frame_script.specs.Causes.{Refusal}
 use Rattle.frame_script.specs.Lines.{lines}
 use Rattle.frame_script.specs.States.{Stage, AtHeader, AtMain, InMain, InModel, InCompositor, AtEnd, Ended, ScriptState, beginning, after_line}
@@ -36,3 +38,15 @@ reading_from number state (line ∷ more) =
 unfoldable pub reading : List ℕ → Result ScriptLists Refusal
 reading bytes =
     if nat_lt MOST_BYTES (length bytes) then Err (refusal 0 TooLong) else reading_from 1 beginning (lines bytes)
+
+-- ---- what a call gives
+
+-- why a call failed is what is read, unless memory ran out
+abbrev pub FailsAs : {Y : Type 0} → Result Y Refusal → ScriptFault → Type 0
+FailsAs read (fault.Refused line cause) = read ≡ Err (refusal line cause)
+FailsAs read fault.NoMemory = Unit {0}
+
+-- What a call returned, seen by view, is what is read, unless memory ran out.
+abbrev pub GivesScript : {X Y : Type 0} → (X → Y) → Result X ScriptFault → Result Y Refusal → Type 0
+GivesScript view (Ok x) read = read ≡ Ok (view x)
+GivesScript view (Err why) read = FailsAs read why

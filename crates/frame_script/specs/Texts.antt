@@ -4,6 +4,8 @@ use Rattle.tree_commit.specs.Scripts.{ScriptLists}
 use Rattle.frame_script.specs.declared.TheConstants.{MOST_BYTES}
 use Rattle.frame_script.specs.declared.cause.Cause.{Cause}
 use Rattle.frame_script.specs.declared.cause.Cause.TheVariants.{MissingPart, TooLong}
+use Rattle.frame_script.specs.declared.fault.ScriptFault.{ScriptFault}
+use Rattle.frame_script.specs.declared.fault.ScriptFault.TheVariants as fault
 use Rattle.frame_script.specs.Lines.{lines}
 use Rattle.frame_script.specs.States.{ScriptState, Ended, at, beginning, after_line}
 
@@ -50,3 +52,8 @@ pub record IsWrong (bytes : List ℕ) (number : ℕ) (cause : Cause) : Type 0 wh
 -- these bytes are refused at a line, counted from 1, for a cause
 abbrev pub IsRefusedAt : List ℕ → ℕ → Cause → Type 0
 IsRefusedAt bytes number cause = IsTooLong bytes number cause ⊎ IsWrong bytes number cause
+
+-- why these bytes could not be read: they are refused, unless memory ran out
+abbrev pub IsWhy : List ℕ → ScriptFault → Type 0
+IsWhy bytes (fault.Refused line cause) = IsRefusedAt bytes line cause
+IsWhy bytes fault.NoMemory = Unit {0}

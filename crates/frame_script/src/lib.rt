@@ -16,12 +16,19 @@ mod main_part;
 mod model_line;
 mod model_said;
 mod model_with;
+mod reading;
 mod reader;
+mod script;
 mod word;
 pub mod worked;
 
 pub use cause::Cause;
 pub use fault::ScriptFault;
+pub use reading::read_script;
+pub use script::Script;
 
 /// The most bytes that a script may have: 2^20.
 pub const MOST_BYTES: usize = 1 << 20;
+
+#[cfg(test)]
+mod tests;

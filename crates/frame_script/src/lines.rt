@@ -1,6 +1,6 @@
 ghost use Rattle.std.specs.Prelude.{◌≡◌, ◌+◌, ◌<◌, ◌≤◌, ◌==◌, ◌∷◌, [], length, position, MatchOption};
 ghost use Rattle.std.specs.List.{position_or_len};
-ghost use Rattle.frame_script.specs.Lines.{lines};
+ghost use Rattle.frame_script.specs.Lines.{lines, is_skipped};
 
 /// The first line of a text, without its line feed, and the text after it. `None` at the end of the text.
 pub fn split_line(text: &[u8]) -> Option<(&[u8], &[u8])>
@@ -27,4 +27,14 @@ fn line_feed(text: &[u8]) -> Option<usize>
     ensures { result ≡ position (λ b. b == 10) text.now }
 {
     text.iter().position(|b| *b == b'\n')
+}
+
+/// Whether a line says nothing: it is empty, or begins with `#`.
+pub(crate) fn is_skipped(line: &[u8]) -> bool
+    ensures { result ≡ is_skipped line.now }
+{
+    match line {
+        [] => true,
+        [first, ..] => *first == b'#',
+    }
 }

@@ -4,15 +4,18 @@ ghost use Rattle.std.specs.Prelude.{◌≡◌, None, map, IfOk};
 ghost use Rattle.script_fields.specs.Fields.{fields};
 ghost use Rattle.frame_script.specs.Causes.{Gives, read_then};
 ghost use Rattle.frame_script.specs.Said.{step_said, model_said, compositor_said, word_said};
+ghost use Rattle.frame_script.specs.Reading.{GivesScript, numbered, end_at};
 ghost use Rattle.frame_script.specs.States as state;
+ghost use Rattle.tree_commit.specs.Scripts.{IsWellFormed};
 ghost use Rattle.frame_script.specs.Views.{keys_of, stage_of, state_of};
 
-use crate::Cause;
+use crate::{Cause, Script, ScriptFault};
 use crate::compositor_part::CompositorPart;
 use crate::compositor_said::{compositor_said, word_said};
 use crate::draft::Draft;
 use crate::edit_said::step_said;
 use crate::fault::LineFault;
+use crate::lines::is_skipped;
 use crate::main_part::MainPart;
 use crate::model_said::model_said;
 use crate::word::is_word_of;
@@ -260,5 +263,51 @@ impl Reader {
         self.word = word;
         self.place = Place::End;
         Ok(())
+    }
+
+    /// Takes the line of a number. A line that is skipped changes nothing.
+    #[tactic(auto, unfolding(crate::specs::States::after_line))]
+    pub(crate) fn read_line(
+        &mut self,
+        alloc: Global,
+        number: u32,
+        line: &[u8],
+    ) -> Result<(), ScriptFault>
+        ensures { GivesScript (λ _. state_of self.new) result (numbered number (state.after_line (state_of self.old) line.now)) }
+    {
+        if is_skipped(line) {
+            return Ok(());
+        }
+        match self.take_line(alloc, line) {
+            Ok(()) => Ok(()),
+            Err(LineFault::Refused(cause)) => Err(ScriptFault::Refused {
+                line: number,
+                cause,
+            }),
+            Err(LineFault::NoMemory) => Err(ScriptFault::NoMemory),
+        }
+    }
+
+    /// The script, where it has ended. The number is that of the line that would stand next.
+    pub(crate) fn into_script(self, number: u32) -> Result<Script, ScriptFault>
+        requires { (state_of self).stage ≡ state.Ended → IsWellFormed (state_of self).script }
+        ensures { GivesScript (λ script. script) result (end_at number (state_of self).stage (state_of self).script) }
+    {
+        let Reader {
+            place,
+            draft,
+            main,
+            compositor,
+            word,
+        } = self;
+        match (draft, place) {
+            (None, Place::Nothing) => {
+                Ok(Script::new(main.into_steps(), compositor.into_steps(), word))
+            }
+            _ => Err(ScriptFault::Refused {
+                line: number,
+                cause: Cause::MissingPart,
+            }),
+        }
     }
 }
