@@ -1,6 +1,6 @@
 -- A line as fields, with exactly one space between two, and a field as parts, with exactly one colon between two: a
 -- space or a colon more makes an empty one.
-use Rattle.std.specs.Prelude.{ℕ, List, [], ◌∷◌, ◌==◌, Option, Some, None, Result, Ok, Err, option_and_then, option_map}
+use Rattle.std.specs.Prelude.{ℕ, List, [], ◌∷◌, ◌++◌, ◌==◌, Option, Some, None, Result, Ok, Err, option_and_then, option_map}
 use Rattle.std.specs.List.{slice_split}
 
 -- the fields of a line
@@ -31,3 +31,12 @@ all_read reads (item ∷ others) = reads item >>= λ x. all_read reads others >>
 abbrev pub unless : {A F : Type 0} → Option F → A → Option A
 unless None value = Some value
 unless (Some reason) value = None
+
+-- fields behind another one, and a line of fields: with a space between each two
+abbrev pub further_fields : List (List ℕ) → List ℕ
+further_fields [] = []
+further_fields (field ∷ others) = (32 ∷ field) ++ further_fields others
+
+abbrev pub joined : List (List ℕ) → List ℕ
+joined [] = []
+joined (field ∷ others) = field ++ further_fields others

@@ -1,6 +1,5 @@
 -- What the fields of a script and of a report are printed as: the one spelling of each value.
 use Rattle.std.specs.Prelude.{ℕ, ℤ, List, [], ◌∷◌, ◌++◌, map, Option, Some, None, codes}
-use Rattle.std.specs.List.{flat_map}
 use Rattle.std.specs.Fmt.{decimal, signed_decimal}
 use Rattle.anim_names.specs.declared.lane.Lane.{Lane}
 use Rattle.anim_names.specs.declared.lane.Lane.TheVariants.{Main, Compositor}
@@ -20,6 +19,7 @@ use Rattle.easing_fixed.specs.declared.position.StepPosition.{StepPosition}
 use Rattle.easing_fixed.specs.declared.position.StepPosition.TheVariants.{JumpStart, JumpEnd, JumpNone, JumpBoth}
 use Rattle.transform_ops.specs.declared.op.TransformOp.{TransformOp}
 use Rattle.transform_ops.specs.declared.op.TransformOp.TheVariants.{Translate, Scale, Rotate, Skew}
+use Rattle.script_fields.specs.Fields.{joined}
 
 -- ---- words
 
@@ -76,9 +76,13 @@ number_text number = codes ":" ++ signed_decimal number
 
 -- ---- easings
 
+-- three numbers
+unfoldable pub axes_text : ℤ → ℤ → ℤ → List ℕ
+axes_text x y z = number_text x ++ number_text y ++ number_text z
+
 -- a cubic by the numbers of its control points
 unfoldable pub cubic_text : ℤ → ℤ → ℤ → ℤ → List ℕ
-cubic_text x1 y1 x2 y2 = codes "cubic" ++ number_text x1 ++ number_text y1 ++ number_text x2 ++ number_text y2
+cubic_text x1 y1 x2 y2 = codes "cubic" ++ axes_text x1 y1 x2 ++ number_text y2
 
 -- a keyword of CSS is printed as what it stands for
 unfoldable pub easing_text : Easing → List ℕ
@@ -87,10 +91,6 @@ easing_text (Steps s) = codes "steps:" ++ decimal s.count ++ codes ":" ++ positi
 easing_text (Cubic c) = cubic_text c.x1 c.y1 c.x2 c.y2
 
 -- ---- operations
-
--- the numbers of three axes
-unfoldable pub axes_text : ℤ → ℤ → ℤ → List ℕ
-axes_text x y z = number_text x ++ number_text y ++ number_text z
 
 -- a turn about an axis by an angle
 unfoldable pub turn_text : ℤ → ℤ → ℤ → ℤ → List ℕ
@@ -108,11 +108,10 @@ abbrev pub list_fields : List TransformOp → List (List ℕ)
 list_fields [] = codes "none" ∷ []
 list_fields (operation ∷ operations) = operation_text operation ∷ map operation_text operations
 
--- a field behind another one
+-- an operation behind another one
 abbrev pub further_text : TransformOp → List ℕ
-further_text operation = codes " " ++ operation_text operation
+further_text operation = 32 ∷ operation_text operation
 
--- the same fields as one text, with a space between each two
+-- the fields of a list as one text
 abbrev pub list_text : List TransformOp → List ℕ
-list_text [] = codes "none"
-list_text (operation ∷ operations) = operation_text operation ++ flat_map further_text operations
+list_text operations = joined (list_fields operations)

@@ -13,6 +13,13 @@ ghost use Rattle.easing_fixed.specs.declared.easing.Easing.{Easing};
 ghost use Rattle.easing_fixed.specs.Easings.{IsEasing};
 ghost use Rattle.keyframe_model.specs.Models.{IsId};
 ghost use Rattle.script_fields.specs.declared.values.TimingNumbers.{TimingNumbers};
+ghost use Rattle.anim_names.specs.declared.lane.Lane.{Lane};
+ghost use Rattle.anim_names.specs.declared.property.Property.{Property};
+ghost use Rattle.anim_delegate.specs.declared.policy.Policy.{Policy};
+ghost use Rattle.micro_time.specs.declared.direction.Direction.{Direction};
+ghost use Rattle.micro_time.specs.declared.fill.Fill.{Fill};
+ghost use Rattle.script_fields.specs.Words.{property_said, direction_said, fill_said, policy_said, letters_said};
+ghost use Rattle.script_fields.specs.Printed.{property_text, direction_text, fill_text, policy_text, start_text, word_text, easing_text, list_fields};
 ghost use Rattle.script_fields.specs.Easings.{easing_said};
 ghost use Rattle.script_fields.specs.Lists.{list_read};
 ghost use Rattle.script_fields.specs.Numbers.{natural_of, integer_of};
@@ -37,4 +44,20 @@ pub fn fields_say_values_that_may_be()
     ensures easing { (field : List ℕ) (easing : Easing) → easing_said field ≡ Some easing → IsEasing easing }
     ensures list { (fields : List (List ℕ)) (ops : List TransformOp) → length fields ≤ MOST_OPERATIONS
         → list_read fields ≡ Ok ops → IsList ops }
+{}
+
+/// What a value that may be is printed as says that value.
+pub fn printed_fields_read_back()
+    ensures id { (id : ℕ) → IsId id → id_said (decimal id) ≡ Some id }
+    ensures opacity { (opacity : ℕ) → IsOpacity opacity → opacity_said (decimal opacity) ≡ Some opacity }
+    ensures time { (time : ℕ) → IsTime time → time_said (decimal time) ≡ Some time }
+    ensures key_time { (time : ℕ) → time ≤ LONGEST_DURATION → key_time_said (decimal time) ≡ Some time }
+    ensures start { (start : Option ℕ) → IfSome start IsTime → start_said (start_text start) ≡ Some start }
+    ensures property { (property : Property) → property_said (property_text property) ≡ Some property }
+    ensures direction { (direction : Direction) → direction_said (direction_text direction) ≡ Some direction }
+    ensures fill { (fill : Fill) → fill_said (fill_text fill) ≡ Some fill }
+    ensures policy { (policy : Policy) → policy_said (policy_text policy) ≡ Some policy }
+    ensures word { (word : List Lane) → letters_said (word_text word) ≡ Some word }
+    ensures easing { (easing : Easing) → IsEasing easing → easing_said (easing_text easing) ≡ Some easing }
+    ensures list { (ops : List TransformOp) → IsList ops → list_read (list_fields ops) ≡ Ok ops }
 {}

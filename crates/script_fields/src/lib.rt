@@ -11,6 +11,7 @@ pub mod fields;
 pub mod laws;
 pub mod lists;
 pub mod numbers;
+pub mod printed;
 pub mod values;
 pub mod words;
 
