@@ -9,3 +9,7 @@ pub mod Sound
 pub mod Steps
 pub mod Prefix
 pub mod Again
+pub mod Lined
+pub mod ModelsBack
+pub mod StepsBack
+pub mod ScriptsBack

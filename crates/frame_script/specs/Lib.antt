@@ -8,3 +8,4 @@ pub mod Worked
 pub mod Views
 pub mod Books
 pub mod Scripts
+pub mod Printing

@@ -16,6 +16,7 @@ mod main_part;
 mod model_line;
 mod model_said;
 mod model_with;
+pub mod print_laws;
 mod reading;
 mod reader;
 mod script;
