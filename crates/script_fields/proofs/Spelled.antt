@@ -23,9 +23,9 @@ read_on-push m d [] = refl
 read_on-push m d (x ∷ xs) = digit_at_end m x d (is_ascii_digit x) xs (read_on-push (10 * m + (x - 48)) d xs)
 
 -- what a digit is
-record IsDigit (d : ℕ) : Type 0 where
-  low : 48 ≤ d
-  high : d ≤ 57
+pub record IsDigit (d : ℕ) : Type 0 where
+  pub low : 48 ≤ d
+  pub high : d ≤ 57
 
 both_true : (a b : Bool) → (a && b) ≡ true → (a ≡ true) × (b ≡ true)
 both_true true true h = (refl, refl)
@@ -208,18 +208,16 @@ pub integer_was_printed : (ds : List ℕ) (z : ℤ) → unsigned_abs z < 2 ^ 64 
 integer_was_printed [] z small h = absurd cc
 integer_was_printed (d ∷ ds) z small h = signed d ds z (eqb d 45) refl small h
 
--- ---- digits are no spaces
+-- ---- what is printed is digits
 
 last_read : (k n d : ℕ) (digit : Bool) (ds : List ℕ) → cond digit (read_on (10 * k + (d - 48)) ds) None ≡ Some n → (digit ≡ true) × (read_on (10 * k + (d - 48)) ds ≡ Some n)
 last_read k n d true ds h = (refl, h)
 last_read k n d false ds h = absurd cc
 
-no_spaces : (k n : ℕ) (ds : List ℕ) → read_on k ds ≡ Some n → AllByRecursion (λ b. eqb b 32 ≡ false) ds
-no_spaces k n [] h = tt
-no_spaces k n (d ∷ ds) h =
-    let g = last_read k n d (is_ascii_digit d) ds h in
-    let range = digit_is d g.0 in
-    (differs d 32 (λ same. omega (arith, range.low, same)), no_spaces (10 * k + (d - 48)) n ds g.1)
+are_digits : (k n : ℕ) (ds : List ℕ) → read_on k ds ≡ Some n → AllByRecursion IsDigit ds
+are_digits k n [] h = tt
+are_digits k n (d ∷ ds) h =
+    let g = last_read k n d (is_ascii_digit d) ds h in (digit_is d g.0, are_digits (10 * k + (d - 48)) n ds g.1)
 
-pub digits_read : (n : ℕ) → n < 2 ^ 64 → AllByRecursion (λ b. eqb b 32 ≡ false) (decimal n)
-digits_read n small = no_spaces 0 n (decimal n) (digits_of_decimal n small).read
+pub digits_printed : (n : ℕ) → n < 2 ^ 64 → AllByRecursion IsDigit (decimal n)
+digits_printed n small = are_digits 0 n (decimal n) (digits_of_decimal n small).read

@@ -1,7 +1,8 @@
 -- What an easing is spelled as: a word, a step function `steps:COUNT:POSITION`, or a curve `cubic:X1:Y1:X2:Y2`.
-use Rattle.std.specs.Prelude.{ℕ, ◌^◌, ℤ, neg_ℤ, pos, List, [], ◌∷◌, Option, Some, None, option_and_then, option_map, if◌then◌else◌, codes}
+use Rattle.std.specs.Prelude.{ℕ, ℤ, pos, List, [], ◌∷◌, Option, Some, None, option_and_then, option_map, if◌then◌else◌, codes}
 use Rattle.std.specs.Str.{bytes_eq}
 use Rattle.std.specs.Option.{option_or}
+use Rattle.easing_fixed.specs.declared.TheConstants.{MOST_STEPS}
 use Rattle.easing_fixed.specs.declared.easing.Easing.{Easing}
 use Rattle.easing_fixed.specs.declared.easing.Easing.TheVariants.{Linear, Steps, Cubic}
 use Rattle.easing_fixed.specs.declared.position.StepPosition.{StepPosition}
@@ -9,7 +10,7 @@ use Rattle.easing_fixed.specs.declared.position.StepPosition.TheVariants.{JumpSt
 use Rattle.easing_fixed.specs.Steps.{step_parts, step_refusal}
 use Rattle.easing_fixed.specs.Cubics.{cubic_parts, cubic_refusal}
 use Rattle.script_fields.specs.Fields.{parts, unless}
-use Rattle.script_fields.specs.Numbers.{natural_within, integer_within}
+use Rattle.script_fields.specs.Numbers.{natural_within, number_said}
 use Rattle.script_fields.specs.Words.{position_said}
 
 -- the easings that have a name, after CSS Easing Functions Level 1
@@ -33,19 +34,15 @@ steps_of count position = unless (step_refusal (step_parts count position)) (Ste
 abbrev pub steps_said : List (List ℕ) → Option Easing
 steps_said (name ∷ count ∷ position ∷ []) =
     if bytes_eq name (codes "steps") then
-    option_and_then (λ n. option_and_then (steps_of n) (position_said position)) (natural_within 0 (10 ^ 6) count) else
+    option_and_then (λ n. option_and_then (steps_of n) (position_said position)) (natural_within 0 MOST_STEPS count) else
     None
 steps_said other = None
 
 -- ---- curves
 
--- a number of a control point, in millionths
-abbrev pub control_said : List ℕ → Option ℤ
-control_said field = integer_within (neg_ℤ (pos (10 ^ 7))) (pos (10 ^ 7)) field
-
--- a control point
+-- a control point, in millionths
 abbrev pub point_said : List ℕ → List ℕ → Option (ℤ × ℤ)
-point_said x y = option_and_then (λ a. option_map (λ b. (a, b)) (control_said y)) (control_said x)
+point_said x y = option_and_then (λ a. option_map (λ b. (a, b)) (number_said y)) (number_said x)
 
 -- the curve of two control points
 unfoldable pub cubic_of : ℤ → ℤ → ℤ → ℤ → Option Easing

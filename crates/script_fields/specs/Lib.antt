@@ -3,3 +3,5 @@ pub mod Fields
 pub mod Words
 pub mod Easings
 pub mod Lists
+pub mod Values
+pub mod Printed

@@ -1,16 +1,25 @@
 -- What the list of a transform is spelled as: the field `none`, or a field for each of 1 to 8 operations.
-use Rattle.std.specs.Prelude.{ℕ, ◌^◌, ℤ, neg_ℤ, pos, Bool, false, List, [], ◌∷◌, Option, Some, None, option_and_then, option_map, if◌then◌else◌, codes}
+use Rattle.std.specs.Prelude.{ℕ, ℤ, Bool, true, false, ◌&&◌, ◌||◌, nat_le, List, [], ◌∷◌, length, Option, Some, None, Result, Ok, Err, ok_or, option_and_then, option_map, if◌then◌else◌, codes}
 use Rattle.std.specs.Str.{bytes_eq}
 use Rattle.std.specs.Option.{option_or}
+use Rattle.std.specs.Result.{result_ok}
+use Rattle.transform_ops.specs.declared.TheConstants.{MOST_OPERATIONS}
 use Rattle.transform_ops.specs.declared.op.TransformOp.{TransformOp}
 use Rattle.transform_ops.specs.declared.op.TransformOp.TheVariants.{Translate, Scale, Rotate, Skew}
-use Rattle.transform_ops.specs.Lists.{list_refusal}
-use Rattle.script_fields.specs.Fields.{parts, all_say, unless}
-use Rattle.script_fields.specs.Numbers.{integer_within}
+use Rattle.transform_ops.specs.Operations.{is_operation}
+use Rattle.script_fields.specs.declared.fault.FieldFault.{FieldFault}
+use Rattle.script_fields.specs.declared.fault.FieldFault.TheVariants.{BadForm, BadNumber}
+use Rattle.script_fields.specs.Fields.{parts, all_read}
+use Rattle.script_fields.specs.Numbers.{number_said}
 
--- a number of an operation
-abbrev pub number_said : List ℕ → Option ℤ
-number_said field = integer_within (neg_ℤ (pos (2 ^ 40))) (pos (2 ^ 40)) field
+-- ---- an operation by its parts
+
+-- the name of an operation, and as many further parts as it has numbers
+abbrev pub has_form : List (List ℕ) → Bool
+has_form (name ∷ x ∷ y ∷ []) = bytes_eq name (codes "skew")
+has_form (name ∷ x ∷ y ∷ z ∷ []) = bytes_eq name (codes "translate") || bytes_eq name (codes "scale")
+has_form (name ∷ x ∷ y ∷ z ∷ angle ∷ []) = bytes_eq name (codes "rotate")
+has_form other = false
 
 -- two numbers, and three
 abbrev pub pair_said : List ℕ → List ℕ → Option (ℤ × ℤ)
@@ -52,18 +61,33 @@ abbrev pub operation_of_parts : List (List ℕ) → Option TransformOp
 operation_of_parts parts =
     option_or (translate_said parts) (option_or (scale_said parts) (option_or (rotate_said parts) (skew_said parts)))
 
-abbrev pub operation_said : List ℕ → Option TransformOp
-operation_said field = operation_of_parts (parts field)
+-- ---- an operation, and a list
 
-abbrev pub operations_said : List (List ℕ) → Option (List TransformOp)
-operations_said fields = option_and_then (λ ops. unless (list_refusal ops) ops) (all_say operation_said fields)
+-- the operation, where each of its numbers is in range
+abbrev pub operation_kept : TransformOp → Option TransformOp
+operation_kept operation = if is_operation operation then Some operation else None
+
+-- the operation with these parts: its name and the number of its parts are judged before its numbers
+unfoldable pub operation_with : List (List ℕ) → Result TransformOp FieldFault
+operation_with parts =
+    if has_form parts then ok_or (option_and_then operation_kept (operation_of_parts parts)) BadNumber else Err BadForm
+
+unfoldable pub operation_read : List ℕ → Result TransformOp FieldFault
+operation_read field = operation_with (parts field)
 
 -- the one field `none`
 abbrev pub is_none_alone : List (List ℕ) → Bool
 is_none_alone (field ∷ []) = bytes_eq field (codes "none")
 is_none_alone other = false
 
+-- a list has from one field to as many as there may be operations
+abbrev pub is_list_long : List (List ℕ) → Bool
+is_list_long fields = nat_le 1 (length fields) && nat_le (length fields) MOST_OPERATIONS
+
+-- the list that so many fields spell, field by field
+unfoldable pub list_read : List (List ℕ) → Result (List TransformOp) FieldFault
+list_read fields = if is_none_alone fields then Ok [] else all_read operation_read fields
+
 -- the list that these fields spell
-abbrev pub list_said : List (List ℕ) → Option (List TransformOp)
-list_said [] = None
-list_said (field ∷ others) = if is_none_alone (field ∷ others) then Some [] else operations_said (field ∷ others)
+unfoldable pub list_said : List (List ℕ) → Option (List TransformOp)
+list_said fields = if is_list_long fields then result_ok (list_read fields) else None

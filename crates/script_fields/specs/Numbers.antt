@@ -1,5 +1,5 @@
 -- The one spelling of a number: its digits, with no zero before them, behind a minus where it is negative.
-use Rattle.std.specs.Prelude.{ℕ, zero, suc, ◌+◌, ◌-◌, ◌*◌, ℤ, pos, negsuc, List, [], ◌∷◌, Option, Some, None, ◌==◌, ◌&&◌, nat_le, int_le, if◌then◌else◌, option_and_then, option_map}
+use Rattle.std.specs.Prelude.{ℕ, zero, suc, ◌+◌, ◌-◌, ◌*◌, ◌^◌, ℤ, pos, negsuc, List, [], ◌∷◌, Option, Some, None, ◌==◌, ◌&&◌, nat_le, int_le, if◌then◌else◌, option_and_then, option_map}
 use Rattle.std.specs.Char.{is_ascii_digit}
 
 -- the number that these digits make behind those of n
@@ -36,3 +36,7 @@ natural_within low high bytes = option_and_then (natural_kept low high) (natural
 
 abbrev pub integer_within : ℤ → ℤ → List ℕ → Option ℤ
 integer_within low high bytes = option_and_then (integer_kept low high) (integer_of bytes)
+
+-- the number of 64 bits that these bytes spell
+abbrev pub number_said : List ℕ → Option ℤ
+number_said field = integer_within (negsuc (2 ^ 63 - 1)) (pos (2 ^ 63 - 1)) field

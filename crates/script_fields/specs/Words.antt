@@ -1,10 +1,13 @@
 -- Fields that are one of a few words.
-use Rattle.std.specs.Prelude.{ℕ, ◌^◌, List, Option, Some, None, option_map, if◌then◌else◌, codes}
+use Rattle.std.specs.Prelude.{ℕ, List, [], ◌∷◌, ◌==◌, Option, Some, None, option_map, if◌then◌else◌, codes}
 use Rattle.std.specs.Str.{bytes_eq}
+use Rattle.anim_names.specs.declared.lane.Lane.{Lane}
+use Rattle.anim_names.specs.declared.lane.Lane.TheVariants.{Main, Compositor}
 use Rattle.anim_names.specs.declared.property.Property.{Property}
 use Rattle.anim_names.specs.declared.property.Property.TheVariants.{Opacity, Transform}
 use Rattle.anim_delegate.specs.declared.policy.Policy.{Policy}
 use Rattle.anim_delegate.specs.declared.policy.Policy.TheVariants.{Auto, FinishedOnly, Manual}
+use Rattle.micro_time.specs.declared.TheConstants.{MOST_ITERATIONS}
 use Rattle.micro_time.specs.declared.direction.Direction.{Direction}
 use Rattle.micro_time.specs.declared.direction.Direction.TheVariants.{Normal, Reverse, Alternate, AlternateReverse}
 use Rattle.micro_time.specs.declared.fill.Fill.{Fill}
@@ -13,6 +16,7 @@ use Rattle.micro_time.specs.declared.iterations.Iterations.{Iterations}
 use Rattle.micro_time.specs.declared.iterations.Iterations.TheVariants.{Finite, Infinite}
 use Rattle.easing_fixed.specs.declared.position.StepPosition.{StepPosition}
 use Rattle.easing_fixed.specs.declared.position.StepPosition.TheVariants.{JumpStart, JumpEnd, JumpNone, JumpBoth}
+use Rattle.script_fields.specs.Fields.{all_say}
 use Rattle.script_fields.specs.Numbers.{natural_within}
 
 abbrev pub property_said : List ℕ → Option Property
@@ -58,4 +62,13 @@ position_said word =
 -- how often a curve is run through, in thousandths
 abbrev pub iterations_said : List ℕ → Option Iterations
 iterations_said field =
-    if bytes_eq field (codes "infinite") then Some Infinite else option_map Finite (natural_within 0 (10 ^ 9) field)
+    if bytes_eq field (codes "infinite") then Some Infinite else option_map Finite (natural_within 0 MOST_ITERATIONS field)
+
+-- a letter of a word: M for main, C for the compositor
+abbrev pub letter_said : ℕ → Option Lane
+letter_said byte = if byte == 77 then Some Main else if byte == 67 then Some Compositor else None
+
+-- a word: its letters, or a dash where it has none
+unfoldable pub letters_said : List ℕ → Option (List Lane)
+letters_said [] = None
+letters_said (byte ∷ bytes) = if bytes_eq (byte ∷ bytes) (codes "-") then Some [] else all_say letter_said (byte ∷ bytes)

@@ -1,14 +1,14 @@
 //! Easings as a script spells them.
 
-ghost use Rattle.std.specs.Prelude.{◌≡◌, ◌^◌, map, IfOk, option_and_then};
+ghost use Rattle.std.specs.Prelude.{◌≡◌, map, IfOk, option_and_then};
 ghost use Rattle.script_fields.specs.Easings as said;
 ghost use Rattle.script_fields.specs.Numbers.{natural_within};
 ghost use Rattle.script_fields.specs.Words.{position_said};
 
 use crate::fields::{is, parts_of};
-use crate::numbers::{integer_within, natural_within};
+use crate::numbers::{natural_within, number_said};
 use crate::words::position_said;
-use easing_fixed::{Easing, StepPosition};
+use easing_fixed::{Easing, MOST_STEPS, StepPosition};
 use std::alloc::{AllocError, Global};
 
 /// The easing that a field spells: a keyword of CSS, `steps:COUNT:POSITION`, or `cubic:X1:Y1:X2:Y2` with control
@@ -53,9 +53,9 @@ fn steps_said(parts: &[&[u8]]) -> Option<Easing>
 }
 
 fn counted_steps(count: &[u8], position: &[u8]) -> Option<Easing>
-    ensures { result ≡ option_and_then (λ n. option_and_then (said.steps_of n) (position_said position.now)) (natural_within 0 (10 ^ 6) count.now) }
+    ensures { result ≡ option_and_then (λ n. option_and_then (said.steps_of n) (position_said position.now)) (natural_within 0 MOST_STEPS count.now) }
 {
-    let count = natural_within(count, 0, 1_000_000)?;
+    let count = natural_within(count, 0, u64::from(MOST_STEPS))?;
     let position = position_said(position)?;
     steps_of(count as u32, position)
 }
@@ -90,16 +90,10 @@ fn cubic_of(x1: i64, y1: i64, x2: i64, y2: i64) -> Option<Easing>
     Easing::cubic(x1, y1, x2, y2).ok()
 }
 
-// A control point.
+// A control point, in millionths.
 fn point_said(x: &[u8], y: &[u8]) -> Option<(i64, i64)>
     ensures { result ≡ said.point_said x.now y.now }
 {
-    let x = control_said(x)?;
-    Some((x, control_said(y)?))
-}
-
-fn control_said(field: &[u8]) -> Option<i64>
-    ensures { result ≡ said.control_said field.now }
-{
-    integer_within(field, -10_000_000, 10_000_000)
+    let x = number_said(x)?;
+    Some((x, number_said(y)?))
 }

@@ -6,16 +6,20 @@
 #![tactic(auto)]
 
 pub mod easings;
+pub mod fault;
 pub mod fields;
 pub mod laws;
 pub mod lists;
 pub mod numbers;
+pub mod printed;
+pub mod values;
 pub mod words;
 
 pub use easings::easing_said;
+pub use fault::FieldFault;
 pub use fields::{fields_of, is};
-pub use lists::list_said;
-pub use numbers::{integer_within, natural_within};
+pub use lists::{list_read, list_said};
+pub use numbers::{integer_within, natural_within, number_said};
 
 #[cfg(test)]
 mod tests;

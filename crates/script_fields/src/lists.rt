@@ -1,26 +1,44 @@
 //! Lists of operations as a script spells them.
 
-ghost use Rattle.std.specs.Prelude.{◌≡◌, map, IfOk, option_map};
-ghost use Rattle.script_fields.specs.Fields.{all_say, unless};
-ghost use Rattle.transform_ops.specs.Lists.{list_refusal};
+ghost use Rattle.std.specs.Prelude.{◌≡◌, ◌≤◌, None, Ok, length, map, IfOk, option_and_then};
+ghost use Rattle.std.specs.Result.{result_map_both};
+ghost use Rattle.script_fields.specs.Fields.{all_read};
 ghost use Rattle.script_fields.specs.Lists as said;
+ghost use Rattle.transform_ops.specs.declared.TheConstants.{MOST_OPERATIONS};
+ghost use Rattle.transform_ops.specs.Lists.{list_refusal};
 
+use crate::FieldFault;
 use crate::fields::{is, parts_of};
-use crate::numbers::integer_within;
+use crate::numbers::number_said;
 use std::alloc::{AllocError, Global};
-use transform_ops::{ListFault, TransformList, TransformOp};
+use transform_ops::{ListFault, MOST_OPERATIONS, TransformList, TransformOp};
 
-/// The list that fields spell: `none` alone, or 1 to 8 operations.
+/// The list that fields spell: `none` alone, or 1 to [`MOST_OPERATIONS`] operations.
+#[tactic(auto, unfolding(crate::specs::Lists::list_said))]
 pub fn list_said(alloc: Global, fields: &[&[u8]]) -> Result<Option<TransformList>, AllocError>
     ensures { IfOk result (λ list. list ≡ said.list_said (map (λ field. field.now) fields.now)) }
 {
-    if fields.is_empty() {
+    if fields.is_empty() || fields.len() > MOST_OPERATIONS {
         return Ok(None);
     }
+    Ok(list_read(alloc, fields)?.ok())
+}
+
+/// The list that these fields spell, or what is wrong with the first wrong one of them.
+#[tactic(auto, unfolding(crate::specs::Lists::list_read))]
+pub fn list_read(
+    alloc: Global,
+    fields: &[&[u8]],
+) -> Result<Result<TransformList, FieldFault>, AllocError>
+    requires { length fields.now ≤ MOST_OPERATIONS }
+    ensures { IfOk result (λ list. list ≡ said.list_read (map (λ field. field.now) fields.now)) }
+{
     if is_none_alone(fields) {
-        list_of(alloc, &[])
-    } else {
-        operations_said(alloc, fields)
+        return list_of(alloc, &[]);
+    }
+    match operations_read(alloc, fields)? {
+        Ok(ops) => list_of(alloc, ops.as_slice()),
+        Err(fault) => Ok(Err(fault)),
     }
 }
 
@@ -33,44 +51,75 @@ fn is_none_alone(fields: &[&[u8]]) -> bool
     }
 }
 
-fn operations_said(alloc: Global, fields: &[&[u8]]) -> Result<Option<TransformList>, AllocError>
-    ensures { IfOk result (λ list. list ≡ said.operations_said (map (λ field. field.now) fields.now)) }
-{
-    match all_operations(alloc, fields)? {
-        Some(ops) => list_of(alloc, ops.as_slice()),
-        None => Ok(None),
-    }
-}
-
-// The list of these operations, where they make one.
-fn list_of(alloc: Global, ops: &[TransformOp]) -> Result<Option<TransformList>, AllocError>
-    ensures { IfOk result (λ list. list ≡ unless (list_refusal ops.now) ops.now) }
+// The list of these operations.
+fn list_of(
+    alloc: Global,
+    ops: &[TransformOp],
+) -> Result<Result<TransformList, FieldFault>, AllocError>
+    requires { list_refusal ops.now ≡ None }
+    ensures { IfOk result (λ list. list ≡ Ok ops.now) }
 {
     match TransformList::new(alloc, ops) {
-        Ok(list) => Ok(Some(list)),
+        Ok(list) => Ok(Ok(list)),
         Err(ListFault::NoMemory) => Err(AllocError),
-        Err(ListFault::TooMany | ListFault::OutOfRange) => Ok(None),
+        Err(ListFault::TooMany | ListFault::OutOfRange) => unreachable!(),
     }
 }
 
-fn all_operations(alloc: Global, fields: &[&[u8]]) -> Result<Option<Vec<TransformOp>>, AllocError>
-    ensures { IfOk result (λ ops. option_map (λ ops. ops.items) ops ≡ all_say said.operation_said (map (λ field. field.now) fields.now)) }
+fn operations_read(
+    alloc: Global,
+    fields: &[&[u8]],
+) -> Result<Result<Vec<TransformOp>, FieldFault>, AllocError>
+    requires { length fields.now ≤ MOST_OPERATIONS }
+    ensures read { IfOk result (λ ops. result_map_both (λ ops. ops.items) (λ fault. fault) ops
+        ≡ all_read said.operation_read (map (λ field. field.now) fields.now)) }
+    ensures taken { IfOk result (λ ops. IfOk ops (λ ops. list_refusal ops.items ≡ None)) }
 {
     let mut ops = Vec::new(alloc);
     for field in fields {
-        let Some(op) = operation_said(alloc, field)? else {
-            return Ok(None);
-        };
-        ops.push(op)?;
+        match operation_read(alloc, field)? {
+            Ok(op) => ops.push(op)?,
+            Err(fault) => return Ok(Err(fault)),
+        }
     }
-    Ok(Some(ops))
+    Ok(Ok(ops))
 }
 
-fn operation_said(alloc: Global, field: &[u8]) -> Result<Option<TransformOp>, AllocError>
-    ensures { IfOk result (λ op. op ≡ said.operation_said field.now) }
+#[tactic(auto, unfolding(crate::specs::Lists::operation_read))]
+fn operation_read(alloc: Global, field: &[u8]) -> Result<Result<TransformOp, FieldFault>, AllocError>
+    ensures { IfOk result (λ op. op ≡ said.operation_read field.now) }
 {
     let parts = parts_of(alloc, field)?;
-    Ok(operation_of_parts(parts.as_slice()))
+    Ok(operation_with(parts.as_slice()))
+}
+
+#[tactic(auto, unfolding(crate::specs::Lists::operation_with))]
+fn operation_with(parts: &[&[u8]]) -> Result<TransformOp, FieldFault>
+    ensures { result ≡ said.operation_with (map (λ part. part.now) parts.now) }
+{
+    if !has_form(parts) {
+        return Err(FieldFault::BadForm);
+    }
+    kept_operation(parts).ok_or(FieldFault::BadNumber)
+}
+
+// The operation with these parts, where each of its numbers is in range.
+fn kept_operation(parts: &[&[u8]]) -> Option<TransformOp>
+    ensures { result ≡ option_and_then said.operation_kept (said.operation_of_parts (map (λ part. part.now) parts.now)) }
+{
+    let op = operation_of_parts(parts)?;
+    if op.is_in_range() { Some(op) } else { None }
+}
+
+fn has_form(parts: &[&[u8]]) -> bool
+    ensures { result ≡ said.has_form (map (λ part. part.now) parts.now) }
+{
+    match parts {
+        [name, _, _] => is(name, "skew"),
+        [name, _, _, _] => is(name, "translate") || is(name, "scale"),
+        [name, _, _, _, _] => is(name, "rotate"),
+        _ => false,
+    }
 }
 
 fn operation_of_parts(parts: &[&[u8]]) -> Option<TransformOp>
@@ -141,11 +190,4 @@ fn pair_said(x: &[u8], y: &[u8]) -> Option<(i64, i64)>
 {
     let x = number_said(x)?;
     Some((x, number_said(y)?))
-}
-
-// A number of an operation.
-fn number_said(field: &[u8]) -> Option<i64>
-    ensures { result ≡ said.number_said field.now }
-{
-    integer_within(field, -(1 << 40), 1 << 40)
 }

@@ -1,7 +1,7 @@
 //! Numbers as a script spells them.
 
 ghost use Rattle.std.specs.Prelude.{◌≡◌, ◌<◌, ◌≤◌, ◌≤ℤ◌, min, IfSome, option_map, option_and_then};
-ghost use Rattle.script_fields.specs.Numbers.{read_on, natural_of, negative, integer_kept, natural_within, integer_within};
+ghost use Rattle.script_fields.specs.Numbers.{read_on, natural_of, negative, integer_kept, natural_within, integer_within, number_said};
 
 /// The number from `low` to `high` that a field spells without a sign.
 pub fn natural_within(field: &[u8], low: u64, high: u64) -> Option<u64>
@@ -29,6 +29,13 @@ pub fn integer_within(field: &[u8], low: i64, high: i64) -> Option<i64>
             kept_within(i128::from(size), low, high)
         }
     }
+}
+
+/// The number of 64 bits that a field spells.
+pub fn number_said(field: &[u8]) -> Option<i64>
+    ensures { result ≡ number_said field.now }
+{
+    integer_within(field, i64::MIN, i64::MAX)
 }
 
 fn negative_within(digits: &[u8], low: i64, high: i64) -> Option<i64>

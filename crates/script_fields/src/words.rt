@@ -1,14 +1,16 @@
 //! Fields that are one of a few words.
 
-ghost use Rattle.std.specs.Prelude.{◌≡◌};
+ghost use Rattle.std.specs.Prelude.{◌≡◌, IfOk, option_map};
+ghost use Rattle.script_fields.specs.Fields.{all_say};
 ghost use Rattle.script_fields.specs.Words as said;
 
 use crate::fields::is;
 use crate::numbers::natural_within;
 use anim_delegate::Policy;
-use anim_names::Property;
+use anim_names::{Lane, Property};
 use easing_fixed::StepPosition;
-use micro_time::{Direction, Fill, Iterations};
+use micro_time::{Direction, Fill, Iterations, MOST_ITERATIONS};
+use std::alloc::{AllocError, Global};
 
 /// What of its element a model animates.
 pub fn property_said(word: &[u8]) -> Option<Property>
@@ -96,6 +98,43 @@ pub fn iterations_said(field: &[u8]) -> Option<Iterations>
     if is(field, "infinite") {
         return Some(Iterations::Infinite);
     }
-    let count = natural_within(field, 0, 1_000_000_000)?;
+    let count = natural_within(field, 0, u64::from(MOST_ITERATIONS))?;
     Some(Iterations::Finite(count as u32))
+}
+
+/// The letters of a word: M for a step of main and C for one of the compositor, or a dash alone for none.
+#[tactic(auto, unfolding(crate::specs::Words::letters_said))]
+pub fn letters_said(alloc: Global, field: &[u8]) -> Result<Option<Vec<Lane>>, AllocError>
+    ensures { IfOk result (λ word. option_map (λ word. word.items) word ≡ said.letters_said field.now) }
+{
+    if field.is_empty() {
+        return Ok(None);
+    }
+    if is(field, "-") {
+        return Ok(Some(Vec::new(alloc)));
+    }
+    all_letters(alloc, field)
+}
+
+fn all_letters(alloc: Global, bytes: &[u8]) -> Result<Option<Vec<Lane>>, AllocError>
+    ensures { IfOk result (λ word. option_map (λ word. word.items) word ≡ all_say said.letter_said bytes.now) }
+{
+    let mut word = Vec::new(alloc);
+    for byte in bytes {
+        let Some(lane) = letter_said(*byte) else {
+            return Ok(None);
+        };
+        word.push(lane)?;
+    }
+    Ok(Some(word))
+}
+
+fn letter_said(byte: u8) -> Option<Lane>
+    ensures { result ≡ said.letter_said byte }
+{
+    match byte {
+        b'M' => Some(Lane::Main),
+        b'C' => Some(Lane::Compositor),
+        _ => None,
+    }
 }

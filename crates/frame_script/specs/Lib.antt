@@ -1,0 +1,11 @@
+pub mod Lines
+pub mod Causes
+pub mod Said
+pub mod States
+pub mod Texts
+pub mod Reading
+pub mod Worked
+pub mod Views
+pub mod Books
+pub mod Scripts
+pub mod Printing
