@@ -125,7 +125,7 @@ pub count-next : {X : Type 0} (p : X → Bool) (xs : List X) (i : ℕ) (x : X) (
     → (count + step) + length (filter p (drop (i + 1) xs)) ≡ all
 count-next p xs i x count step all found is so_far =
     let left : length (filter p (drop i xs)) ≡ cond (p x) 1 0 + length (filter p (drop (i + 1) xs)) =
-        ap (λ l. length (filter p l)) (drop-found xs i x found) ∙ one x (filter p (drop (i + 1) xs)) (p x) in
+    ap (λ l. length (filter p l)) (drop-found xs i x found) ∙ one x (filter p (drop (i + 1) xs)) (p x) in
     omega (arith, left, is, so_far)
 
 -- what counts one element counts at most 1

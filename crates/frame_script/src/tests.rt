@@ -74,7 +74,12 @@ const REFUSED: [(usize, &str, u32, Cause); 19] = [
         5,
         Cause::BadNumber,
     ),
-    (6, "# a line that is skipped\n\nkey 0 linear 0 0", 8, Cause::BadLine),
+    (
+        6,
+        "# a line that is skipped\n\nkey 0 linear 0 0",
+        8,
+        Cause::BadLine,
+    ),
     (16, "end\nend", 17, Cause::BadLine),
 ];
 
@@ -110,7 +115,11 @@ fn types_are_shared_between_threads() {
 fn one_wrong_line_is_refused(rt: HostRuntime) -> Result<(), Fail> {
     for (number, line, at, cause) in REFUSED {
         let text = fade(rt.alloc(), 16, number, line)?;
-        assert_eq!(rt; fault(rt.alloc(), text.as_bytes()), refused(at, cause), "{line}");
+        assert_eq!(rt;
+            fault(rt.alloc(), text.as_bytes()),
+            refused(at, cause),
+            "{line}"
+        );
     }
     Ok(())
 }
@@ -177,6 +186,7 @@ end
 ";
 
 const MAIN: Lane = Lane::Main;
+
 const COMPOSITOR: Lane = Lane::Compositor;
 
 fn expect_lists(rt: &impl Abort, script: &Script) {

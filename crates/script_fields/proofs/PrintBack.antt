@@ -299,8 +299,8 @@ easing_field (Steps s) fits =
     let few = few_steps s fits in
     let small : s.count < 2 ^ 64 = omega arith in
     subst IsField (sym (steps_text_is s.count s.position)) (
-      field-append (codes "steps") (58 ∷ (decimal s.count ++ 58 ∷ position_text s.position)) (text_field (codes "steps") refl)
-      (refl, field-append (decimal s.count) (58 ∷ position_text s.position) (plain_field (decimal s.count) (decimal_plain s.count small)) (refl, plain_field (position_text s.position) (plain_position s.position)))
+    field-append (codes "steps") (58 ∷ (decimal s.count ++ 58 ∷ position_text s.position)) (text_field (codes "steps") refl)
+    (refl, field-append (decimal s.count) (58 ∷ position_text s.position) (plain_field (decimal s.count) (decimal_plain s.count small)) (refl, plain_field (position_text s.position) (plain_position s.position)))
     )
 easing_field (Cubic c) fits =
     let s = small_cubic c fits in

@@ -131,17 +131,17 @@ nothing_said easing h = absurd cc
 keyword_fits : (word : List ℕ) (easing : Easing) → keyword_said word ≡ Some easing → IsEasing easing
 keyword_fits word easing h =
     chain (bytes_eq word (codes "linear")) Linear _ easing tt (
-      chain (bytes_eq word (codes "ease")) _ _ easing refl (
-        chain (bytes_eq word (codes "ease-in")) _ _ easing refl (
-          chain (bytes_eq word (codes "ease-out")) _ _ easing refl (
-            chain (bytes_eq word (codes "ease-in-out")) _ _ easing refl (
-              chain (bytes_eq word (codes "step-start")) _ _ easing refl (
-                chain (bytes_eq word (codes "step-end")) _ _ easing refl (nothing_said easing)
-              )
-            )
-          )
-        )
-      )
+    chain (bytes_eq word (codes "ease")) _ _ easing refl (
+    chain (bytes_eq word (codes "ease-in")) _ _ easing refl (
+    chain (bytes_eq word (codes "ease-out")) _ _ easing refl (
+    chain (bytes_eq word (codes "ease-in-out")) _ _ easing refl (
+    chain (bytes_eq word (codes "step-start")) _ _ easing refl (
+    chain (bytes_eq word (codes "step-end")) _ _ easing refl (nothing_said easing)
+    )
+    )
+    )
+    )
+    )
     ) h
 
 steps_fit : (count : ℕ) (position : StepPosition) (easing : Easing) → steps_of count position ≡ Some easing → IsEasing easing

@@ -86,7 +86,10 @@ fn operations_read(
 }
 
 #[tactic(auto, unfolding(crate::specs::Lists::operation_read))]
-fn operation_read(alloc: Global, field: &[u8]) -> Result<Result<TransformOp, FieldFault>, AllocError>
+fn operation_read(
+    alloc: Global,
+    field: &[u8],
+) -> Result<Result<TransformOp, FieldFault>, AllocError>
     ensures { IfOk result (λ op. op ≡ said.operation_read field.now) }
 {
     let parts = parts_of(alloc, field)?;

@@ -196,4 +196,3 @@ fn print_number(out: &mut String, number: i64) -> Result<(), AllocError>
 {
     write!(out, ":{number}")
 }
-

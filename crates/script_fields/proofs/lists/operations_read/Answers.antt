@@ -16,9 +16,9 @@ loop-field-preserved c =
     let fits : is_operation c.in-Ok.op ≡ true = read_in_range _ c.in-Ok.op (sym read) in
     record {
       so_far = rw c.in_ok-push-in-Ok.ensures.items (
-        item_read operation_read (λ field. field.now) c.loop-field.ops.items c.args.fields.now c.loop-field.field-index _ c.in-Ok.op _
-        c.loop-field-test.true read c.loop-field.invariant.so_far
-      );
+          item_read operation_read (λ field. field.now) c.loop-field.ops.items c.args.fields.now c.loop-field.field-index _ c.in-Ok.op _
+          c.loop-field-test.true read c.loop-field.invariant.so_far
+          );
       many = grind (arith, common_steps);
       in_range = grind (arith, common_steps, fits);
     }
