@@ -1,5 +1,5 @@
 -- Loops over a list by index: what is made so far, and then what the rest gives, is all.
-use Rattle.std.proofs.Common.{arith, ◌≡◌, ℕ, ◌+◌, ◌≤◌, Bool, true, false, List, [], ◌∷◌, ◌++◌, length, drop, filter, map, cond, Option, Some, None, refl, sym, ap, ◌∙◌, append_assoc}
+use Rattle.std.proofs.Common.{arith, ◌≡◌, ℕ, ◌+◌, ◌≤◌, Bool, true, false, List, [], ◌∷◌, ◌++◌, length, drop, filter, cond, Option, Some, refl, sym, ap, ◌∙◌, append_assoc}
 use Rattle.std.specs.Prelude.{slice_get, ◌&&◌, ◌||◌, filter_map, fold, unwrap_or}
 use Rattle.std.specs.List.{list_any, list_all, cons_option}
 use Rattle.std.proofs.lemmas.List.{drop_all, drop_more, append-nil}
@@ -125,7 +125,7 @@ pub count-next : {X : Type 0} (p : X → Bool) (xs : List X) (i : ℕ) (x : X) (
     → (count + step) + length (filter p (drop (i + 1) xs)) ≡ all
 count-next p xs i x count step all found is so_far =
     let left : length (filter p (drop i xs)) ≡ cond (p x) 1 0 + length (filter p (drop (i + 1) xs)) =
-        ap (λ l. length (filter p l)) (drop-found xs i x found) ∙ one x (filter p (drop (i + 1) xs)) (p x) in
+    ap (λ l. length (filter p l)) (drop-found xs i x found) ∙ one x (filter p (drop (i + 1) xs)) (p x) in
     omega (arith, left, is, so_far)
 
 -- what counts one element counts at most 1

@@ -1,5 +1,5 @@
 -- Loops that put a mark behind the others for each model that a test lets through.
-use Rattle.std.proofs.Common.{◌≡◌, ℕ, ◌+◌, ◌≤◌, Bool, true, false, cond, List, [], ◌∷◌, ◌++◌, length, take, drop, filter, map, Some, refl, sym, ap, ◌∙◌, arith}
+use Rattle.std.proofs.Common.{◌≡◌, ℕ, ◌+◌, ◌≤◌, Bool, true, false, cond, List, ◌∷◌, ◌++◌, length, take, drop, filter, map, Some, refl, ap, ◌∙◌, arith}
 use Rattle.std.specs.Prelude.{slice_get}
 use Rattle.std.proofs.lemmas.List.{length-append, take-append-le, take_all}
 use Rattle.keyframe_model.specs.Models.{Spec}
@@ -55,7 +55,7 @@ pub pushing-next : (test : Spec → Bool) (mark : Spec → Mark) (models : List 
     → Pushing test mark models (index + 1) old new
 pushing-next test mark models index old now new model found is so_far =
     let longer : length new.marks ≡ length now.marks + length (mark_if (test model) (mark model)) =
-        ap (λ (m : Marked). length m.marks) is ∙ length-append now.marks (mark_if (test model) (mark model)) in
+    ap (λ (m : Marked). length m.marks) is ∙ length-append now.marks (mark_if (test model) (mark model)) in
     let one = short (test model) (mark model) in
     let few = so_far.few in
     let many = so_far.many in

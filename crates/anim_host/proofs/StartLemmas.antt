@@ -1,5 +1,5 @@
 -- The groups in turn: what those before an index started, and then what the rest starts, is all.
-use Rattle.std.proofs.Common.{◌≡◌, ℕ, ◌+◌, ◌≤◌, ◌<◌, Bool, true, false, cond, List, [], ◌∷◌, ◌++◌, length, drop, map, filter, Option, get_or, refl, sym, ap, ◌∙◌, append_assoc, arith}
+use Rattle.std.proofs.Common.{◌≡◌, ℕ, ◌+◌, ◌≤◌, ◌<◌, Bool, true, false, cond, List, [], ◌∷◌, ◌++◌, length, drop, map, Option, get_or, refl, sym, ap, ◌∙◌, append_assoc, arith}
 use Rattle.std.proofs.lemmas.List.{append-nil, drop_all, drop_more, length-append, length-map}
 use Rattle.tree_commit.specs.declared.runs.mark.Mark.{Mark}
 use Rattle.tree_commit.specs.Trees.{TreeLists, Committed, members_of}
@@ -50,10 +50,10 @@ starting-next tree pending tick groups index old now new group left is so_far =
     let is_new = group_marks tree pending now.marks tick group in
     let marks : new.marks ≡ now.marks ++ group_marks tree pending now.marks tick group = ap (λ (m : Marked). m.marks) is in
     let longer : length new.marks ≡ length now.marks + length (group_marks tree pending now.marks tick group) =
-        ap (λ (m : List Mark). length m) marks ∙ length-append now.marks (group_marks tree pending now.marks tick group) in
+    ap (λ (m : List Mark). length m) marks ∙ length-append now.marks (group_marks tree pending now.marks tick group) in
     let few = started-few tree pending now.marks tick group in
     let rest : start_room tree (drop index groups) ≡ length (members_of tree group) + start_room tree (drop (index + 1) groups) =
-        ap (start_room tree) left in
+    ap (start_room tree) left in
     let fits = so_far.fits in
     record {
       made =
@@ -74,7 +74,7 @@ pub starting-last : (tree : TreeLists) (pending : Option Committed) (tick : ℕ)
     → now ≡ with_marks old (start_marks tree pending old.marks tick groups)
 starting-last tree pending tick groups index old now past so_far =
     let all : now.marks ≡ old.marks ++ start_marks tree pending old.marks tick groups =
-        sym (append-nil now.marks)
-        ∙ ap (λ (m : List Mark). now.marks ++ m) (sym (ap (λ (l : List ℕ). start_marks tree pending now.marks tick l) (drop_all index groups past) ∙ start-none tree pending now.marks tick))
-        ∙ so_far.made in
+    sym (append-nil now.marks)
+    ∙ ap (λ (m : List Mark). now.marks ++ m) (sym (ap (λ (l : List ℕ). start_marks tree pending now.marks tick l) (drop_all index groups past) ∙ start-none tree pending now.marks tick))
+    ∙ so_far.made in
     with-marks old now _ all so_far.cleared so_far.room

@@ -117,10 +117,10 @@ fn lets_finish(
     requires within { StartsAreWithin marks.now }
     ensures { result
         ≡ (if group == model.now.group then
-            (if is_running marks.now model.now.id
-            then is_over active.now.tree tick model.now (start_of marks.now model.now.id)
-            else true)
-            else true) }
+        (if is_running marks.now model.now.id
+        then is_over active.now.tree tick model.now (start_of marks.now model.now.id)
+        else true)
+        else true) }
 {
     if is_in(model, group) {
         is_over_or_still(active, marks, tick, model)

@@ -137,12 +137,7 @@ pub(crate) fn is_blocked_for(
     is_blocked_from(marks, group, element, property)
 }
 
-fn is_blocked_from(
-    marks: &[Mark],
-    group: GroupId,
-    element: ElementId,
-    property: Property,
-) -> bool
+fn is_blocked_from(marks: &[Mark], group: GroupId, element: ElementId, property: Property) -> bool
     ensures { result ≡ list_any (blocks_from marks.now group element property) marks.now }
 {
     marks
@@ -218,7 +213,9 @@ fn starts_on(mark: &Mark, id: ElementId, kind: Property) -> bool
 {
     match *mark {
         Mark::Started {
-            element, property, ..
+            element,
+            property,
+            ..
         } => id == element && is_same(kind, property),
         Mark::Finished { .. } => false,
         Mark::Aborted { .. } => false,

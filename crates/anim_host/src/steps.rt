@@ -151,13 +151,7 @@ fn start_members(marks: &mut MarkList, active: &Commit, group: GroupId, tick: u6
 }
 
 // The model's start, where it is of the group.
-fn start_one(
-    marks: &mut MarkList,
-    active: &Commit,
-    group: GroupId,
-    model: &ModelSpec,
-    tick: u64,
-)
+fn start_one(marks: &mut MarkList, active: &Commit, group: GroupId, model: &ModelSpec, tick: u64)
     requires room { length marks.old.marks < marks.old.room }
     requires in_time { IsTime tick }
     requires timeline_there { IsTrue (has_timeline active.now.tree model.now.timeline) }

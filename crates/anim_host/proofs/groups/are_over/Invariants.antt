@@ -8,5 +8,5 @@ abbrev pub invariant-loop-index : goal.invariant-loop-index
 invariant-loop-index l =
     (l.over
     && list_all (λ model. is_over l.active.tree l.tick model (start_of l.marks model.id))
-        (filter (λ model. is_running l.marks model.id) (filter (λ model. l.group == model.group) (drop l.index l.active.tree.models))))
+    (filter (λ model. is_running l.marks model.id) (filter (λ model. l.group == model.group) (drop l.index l.active.tree.models))))
     ≡ are_over l.active.tree l.marks l.tick l.group

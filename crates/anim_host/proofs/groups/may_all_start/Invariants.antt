@@ -9,5 +9,5 @@ abbrev pub invariant-loop-index : goal.invariant-loop-index
 invariant-loop-index l =
     (l.ready
     && list_all (may_start l.active.tree (option_map (λ commit. commit.value) l.pending) l.marks)
-        (filter (λ model. l.group == model.group) (drop l.index l.active.tree.models)))
+    (filter (λ model. l.group == model.group) (drop l.index l.active.tree.models)))
     ≡ list_all (may_start l.active.tree (option_map (λ commit. commit.value) l.pending) l.marks) (members_of l.active.tree l.group)
