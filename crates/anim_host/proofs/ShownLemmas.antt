@@ -1,17 +1,15 @@
 -- What a host shows, and what its marks show: the same of each model of the active commit.
-use Rattle.std.proofs.Common.{◌≡◌, ℕ, ◌≤◌, get_or, ◌<◌, ◌||◌, Bool, true, false, cond, List, [], ◌∷◌, map, filter, Option, Some, None, refl, sym, ap, ◌∙◌}
+use Rattle.std.proofs.Common.{◌≡◌, ℕ, ◌≤◌, get_or, ◌||◌, Bool, true, false, cond, List, [], ◌∷◌, map, filter, Option, None, refl, ap, ◌∙◌}
 use Rattle.std.specs.Prelude.{unsigned_abs, filter_map, option_map, IfSome, if◌then◌else◌, ◌==◌}
 use Rattle.std.specs.List.{list_any, cons_option}
 use Rattle.std.proofs.lemmas.Bool.{eq-eqb}
 use Rattle.anim_names.specs.declared.property.Property.{Property}
 use Rattle.anim_names.specs.declared.property.Property.TheVariants.{Opacity, Transform}
 use Rattle.micro_time.specs.declared.TheConstants.{LARGEST_LOCAL}
-use Rattle.transform_ops.specs.declared.op.TransformOp.{TransformOp}
 use Rattle.keyframe_model.specs.Models.{Spec, PropertyValue}
-use Rattle.tree_commit.specs.declared.runs.mark.Mark.{Mark}
 use Rattle.tree_commit.specs.declared.runs.shown.Shown.{Shown}
-use Rattle.tree_commit.specs.Trees.{Committed, Element, TreeLists, has_model, local_time}
-use Rattle.tree_commit.specs.Frames.{DrawnFrame, DrawnRow, Given, LocalTimesFit, animated_value, animates, animators, frame_at, frame_by, given_by, latest_of, opacity_or, row_of, shown_by, transform_or}
+use Rattle.tree_commit.specs.Trees.{Element, has_model, local_time}
+use Rattle.tree_commit.specs.Frames.{DrawnFrame, DrawnRow, Given, LocalTimesFit, animated_value, animates, frame_at, frame_by, given_by, latest_of, opacity_or, row_of, shown_by, transform_or}
 use Rattle.anim_host.specs.Hosting.{Hosting, shown_in}
 
 -- ---- one model

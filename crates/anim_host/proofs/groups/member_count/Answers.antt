@@ -1,5 +1,5 @@
-use Rattle.std.proofs.Common.{◌≤◌, arith}
-use Rattle.std.specs.Prelude.{◌==◌, if◌then◌else◌}
+use Rattle.std.proofs.Common.{arith}
+use Rattle.std.specs.Prelude.{◌==◌}
 use Rattle.keyframe_model.specs.Models.{Spec}
 use Rattle.anim_host.proofs.LoopLemmas.{count-next, one-most}
 use Rattle.anim_host.proofs.groups.member_count.Goals as goal

@@ -1,4 +1,4 @@
-use Rattle.std.proofs.Common.{List, length, refl, arith}
+use Rattle.std.proofs.Common.{List, arith}
 use Rattle.tree_commit.specs.declared.runs.mark.Mark.TheVariants.{Aborted}
 use Rattle.tree_commit.specs.Marks.{is_lost, marks_of_activation}
 use Rattle.keyframe_model.specs.Models.{Spec}

@@ -1,4 +1,4 @@
-use Rattle.std.proofs.Common.{List, length, refl, arith}
+use Rattle.std.proofs.Common.{List, arith}
 use Rattle.tree_commit.specs.declared.runs.mark.Mark.TheVariants.{Finished}
 use Rattle.tree_commit.specs.Marks.{finish_marks}
 use Rattle.anim_host.specs.MarkLists.{finishes}

@@ -1,7 +1,4 @@
-use Rattle.std.proofs.Common.{◌≡◌, ◌+◌, ◌≤◌, ◌++◌, drop, length}
 use Rattle.std.specs.Prelude.{option_map}
-use Rattle.tree_commit.specs.Marks.{start_marks}
-use Rattle.anim_host.specs.MarkLists.{start_room}
 use Rattle.anim_host.proofs.StartLemmas.{Starting}
 use Rattle.anim_host.proofs.steps.start_groups.Given as goal
 

@@ -1,9 +1,9 @@
-use Rattle.std.proofs.Common.{List, length, refl, arith}
+use Rattle.std.proofs.Common.{List, length, refl}
 use Rattle.std.specs.Prelude.{◌==◌}
 use Rattle.tree_commit.specs.Marks.{start_mark}
 use Rattle.keyframe_model.specs.Models.{Spec}
 use Rattle.tree_commit.specs.declared.runs.mark.Mark.{Mark}
-use Rattle.anim_host.proofs.PushLemmas.{pushing-last, pushing-next-over}
+use Rattle.anim_host.proofs.PushLemmas.{pushing-next-over}
 use Rattle.anim_host.proofs.steps.start_members.Goals as goal
 
 pub loop-index-preserved : goal.loop-index-preserved
