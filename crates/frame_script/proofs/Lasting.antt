@@ -79,12 +79,15 @@ pub one_key_more : {V : Type 0} (is_value : V → Type 0) (most : ℕ) (keys mor
     → with_key keys key ≡ Ok more → (AreKeys is_value most more) × (0 < length more)
 one_key_more {V} is_value most keys more key fits room here h =
     let w = with_key_is keys more key h in
-    let made : (AreKeys is_value most (keys ++ key ∷ [])) × (0 < length (keys ++ key ∷ [])) = (record {
-      few = omega (arith, length-append keys (key ∷ []), room);
-      each = each-push (IsKey is_value) keys key fits.each here;
-      rising = still_rising keys key fits.rising w.0;
-      begins = λ some. still_begins keys key fits.begins w.0;
-    }, omega (arith, length-append keys (key ∷ []))) in
+    let made : (AreKeys is_value most (keys ++ key ∷ [])) × (0 < length (keys ++ key ∷ [])) = (
+      record {
+        few = omega (arith, length-append keys (key ∷ []), room);
+        each = each-push (IsKey is_value) keys key fits.each here;
+        rising = still_rising keys key fits.rising w.0;
+        begins = λ some. still_begins keys key fits.begins w.0;
+      },
+      omega (arith, length-append keys (key ∷ [])),
+    ) in
     subst (λ (ks : List (Key V)). (AreKeys is_value most ks) × (0 < length ks)) w.1 made
 
 -- as many keys as a curve may have, of which this is known, make one

@@ -191,23 +191,29 @@ spelled_is_read bytes script spelled =
     rw (le-ltb MOST_BYTES (length bytes) spelled.short) (leads_read 1 beginning (lines bytes) script spelled.leads)
 
 as_refused : (bytes : List ℕ) (r : Refusal) → length bytes ≤ MOST_BYTES → Fails beginning (lines bytes) 1 r → IsRefusedAt bytes r.line r.cause
-as_refused bytes r short (inl w) = inr (record { short = short; wrong = inl (record {
-  before = w.before;
-  wrong = w.wrong;
-  behind = w.behind;
-  state = w.state;
-  cut = w.cut;
-  leads = w.leads;
-  refused = w.refused;
-  number_is = w.number_is;
-}) })
-as_refused bytes r short (inr c) = inr (record { short = short; wrong = inr (record {
-  state = c.state;
-  leads = c.leads;
-  goes_on = c.goes_on;
-  number_is = c.number_is;
-  cause_is = c.cause_is;
-}) })
+as_refused bytes r short (inl w) = inr (record {
+  short = short;
+  wrong = inl (record {
+    before = w.before;
+    wrong = w.wrong;
+    behind = w.behind;
+    state = w.state;
+    cut = w.cut;
+    leads = w.leads;
+    refused = w.refused;
+    number_is = w.number_is;
+  });
+})
+as_refused bytes r short (inr c) = inr (record {
+  short = short;
+  wrong = inr (record {
+    state = c.state;
+    leads = c.leads;
+    goes_on = c.goes_on;
+    number_is = c.number_is;
+    cause_is = c.cause_is;
+  });
+})
 
 refused_by : (bytes : List ℕ) (r : Refusal) (long : Bool) → ltb MOST_BYTES (length bytes) ≡ long
     → cond long (Err (refusal 0 TooLong)) (reading_from 1 beginning (lines bytes)) ≡ Err r → IsRefusedAt bytes r.line r.cause

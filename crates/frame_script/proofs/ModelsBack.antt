@@ -168,13 +168,52 @@ model_fields_fit model fits =
     let few : keys_there model.curve ≤ MOST_KEYS = keys.most in
     let small : keys_there model.curve < 2 ^ 64 = omega arith in
     let start = start_small model.timing fits.timing in
-    let begin : model.timing.iteration_start < 2 ^ 64 = omega (arith, start) in
-    (text_field (codes "model") refl, (id_field model.id fits.id, (id_field model.group fits.group, (id_field model.element fits.element, (id_field model.timeline fits.timeline,
-    (property_field (property_of_curve model.curve), (plain_field (start_text model.start) (start_plain model.start fits.start),
-    (signed_field model.timing.offset (offset_small model.timing fits.timing), (iterations_field model.timing.iterations (ranges_of model.timing fits.timing).iterations,
-    (plain_field (decimal model.timing.iteration_start) (decimal_plain model.timing.iteration_start begin), (direction_field model.timing.direction, (fill_field model.timing.fill,
-    (signed_field model.timing.rate (rate_small model.timing fits.timing), (policy_field model.policy, (easing_field (curve_easing model.curve) keys.easing,
-    (plain_field (decimal (keys_there model.curve)) (decimal_plain (keys_there model.curve) small), tt))))))))))))))))
+    let begin : model.timing.iteration_start < 2 ^ 64 = omega (arith, start) in (
+      text_field (codes "model") refl,
+      (
+        id_field model.id fits.id,
+        (
+          id_field model.group fits.group,
+          (
+            id_field model.element fits.element,
+            (
+              id_field model.timeline fits.timeline,
+              (
+                property_field (property_of_curve model.curve),
+                (
+                  plain_field (start_text model.start) (start_plain model.start fits.start),
+                  (
+                    signed_field model.timing.offset (offset_small model.timing fits.timing),
+                    (
+                      iterations_field model.timing.iterations (ranges_of model.timing fits.timing).iterations,
+                      (
+                        plain_field (decimal model.timing.iteration_start) (decimal_plain model.timing.iteration_start begin),
+                        (
+                          direction_field model.timing.direction,
+                          (
+                            fill_field model.timing.fill,
+                            (
+                              signed_field model.timing.rate (rate_small model.timing fits.timing),
+                              (
+                                policy_field model.policy,
+                                (
+                                  easing_field (curve_easing model.curve) keys.easing,
+                                  (plain_field (decimal (keys_there model.curve)) (decimal_plain (keys_there model.curve) small), tt),
+                                ),
+                              ),
+                            ),
+                          ),
+                        ),
+                      ),
+                    ),
+                  ),
+                ),
+              ),
+            ),
+          ),
+        ),
+      ),
+    )
 
 -- ---- the lines of the keys
 
@@ -277,8 +316,8 @@ keys_lead {V} keep is_value value_fields is_long says script model front key (ot
     let after : after_key script model (keep (front ++ key ∷ [])) ≡ Ok between = rw unfinished refl in
     let here = one_key_leads keep is_value value_fields is_long says script model front key between printed keeps all.0 (next_time front (other ∷ rest) key rising begins) after in
     let more = keys_lead keep is_value value_fields is_long says script model (front ++ key ∷ []) other rest next printed keeps all.1
-        (ap is_rising (sym moved) ∙ rising) (ap begins_at_zero (sym moved) ∙ begins) (ap length (sym moved) ∙ many)
-        (ap (λ (ks : List (Key V)). model_made script model (keep ks)) (sym moved) ∙ made) in
+    (ap is_rising (sym moved) ∙ rising) (ap begins_at_zero (sym moved) ∙ begins) (ap length (sym moved) ∙ many)
+    (ap (λ (ks : List (Key V)). model_made script model (keep ks)) (sym moved) ∙ made) in
     then_leads (at (InModel model (keep front)) script) between next (key_line value_fields key) (flat_map (key_line value_fields) (other ∷ rest)) here more
 
 -- ---- the model is made again

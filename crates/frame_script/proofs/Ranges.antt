@@ -164,16 +164,16 @@ edit_fits : (name : List ℕ) (fields : List (List ℕ)) (change : Change) → e
 unfolding edit_said
 edit_fits name fields change h =
     picked (IsChange change) (bytes_eq name (codes "element")) (element_said fields) _ change (element_fits fields change) (
-      picked (IsChange change) (bytes_eq name (codes "opacity")) (set_opacity_said fields) _ change (set_opacity_fits fields change) (
-        picked (IsChange change) (bytes_eq name (codes "transform")) (set_transform_said fields) _ change (set_transform_fits fields change) (
-          picked (IsChange change) (bytes_eq name (codes "timeline")) (timeline_said fields) _ change (timeline_fits fields change) (
-            picked (IsChange change) (bytes_eq name (codes "drop-element")) (drop_element_said fields) _ change (drop_element_fits fields change) (
-              picked (IsChange change) (bytes_eq name (codes "drop-model")) (drop_model_said fields) (Err BadLine) change (drop_model_fits fields change)
-              (λ bad. absurd cc)
-            )
-          )
-        )
-      )
+    picked (IsChange change) (bytes_eq name (codes "opacity")) (set_opacity_said fields) _ change (set_opacity_fits fields change) (
+    picked (IsChange change) (bytes_eq name (codes "transform")) (set_transform_said fields) _ change (set_transform_fits fields change) (
+    picked (IsChange change) (bytes_eq name (codes "timeline")) (timeline_said fields) _ change (timeline_fits fields change) (
+    picked (IsChange change) (bytes_eq name (codes "drop-element")) (drop_element_said fields) _ change (drop_element_fits fields change) (
+    picked (IsChange change) (bytes_eq name (codes "drop-model")) (drop_model_said fields) (Err BadLine) change (drop_model_fits fields change)
+    (λ bad. absurd cc)
+    )
+    )
+    )
+    )
     ) h
 
 alone_is : {A : Type 0} (said : A) (fields : List (List ℕ)) (x : A) → alone said fields ≡ Ok x → said ≡ x
@@ -184,11 +184,11 @@ pub step_in_range : (name : List ℕ) (fields : List (List ℕ)) (step : StepOfM
 unfolding step_said
 step_in_range name fields step h =
     picked (IsStep step) (bytes_eq name (codes "commit")) (alone CommitStep fields) _ step (λ k. subst IsStep (alone_is CommitStep fields step k) tt) (
-      picked (IsStep step) (bytes_eq name (codes "drain")) (alone DrainStep fields) (edit_said name fields >>= λ change. done (EditStep change)) step (λ k. subst IsStep (alone_is DrainStep fields step k) tt) (
-        λ k.
-          let e = bind_ok (edit_said name fields) (λ change. done (EditStep change)) step k in
-          subst IsStep (ok_is (EditStep e.0) step e.2) (edit_fits name fields e.0 e.1)
-      )
+    picked (IsStep step) (bytes_eq name (codes "drain")) (alone DrainStep fields) (edit_said name fields >>= λ change. done (EditStep change)) step (λ k. subst IsStep (alone_is DrainStep fields step k) tt) (
+    λ k.
+    let e = bind_ok (edit_said name fields) (λ change. done (EditStep change)) step k in
+    subst IsStep (ok_is (EditStep e.0) step e.2) (edit_fits name fields e.0 e.1)
+    )
     ) h
 
 -- ---- the line of a model
@@ -367,7 +367,7 @@ pub compositor_in_range : (name : List ℕ) (fields : List (List ℕ)) (step : C
 unfolding compositor_said
 compositor_in_range name fields step h =
     picked (IsCompositorStep step) (bytes_eq name (codes "pull")) (alone Pull fields) _ step (λ k. subst IsCompositorStep (alone_is Pull fields step k) tt) (
-      picked (IsCompositorStep step) (bytes_eq name (codes "activate")) (alone Activate fields) _ step (λ k. subst IsCompositorStep (alone_is Activate fields step k) tt) (
-        picked (IsCompositorStep step) (bytes_eq name (codes "tick")) (tick_said fields) (Err BadLine) step (tick_fits fields step) (λ bad. absurd cc)
-      )
+    picked (IsCompositorStep step) (bytes_eq name (codes "activate")) (alone Activate fields) _ step (λ k. subst IsCompositorStep (alone_is Activate fields step k) tt) (
+    picked (IsCompositorStep step) (bytes_eq name (codes "tick")) (tick_said fields) (Err BadLine) step (tick_fits fields step) (λ bad. absurd cc)
+    )
     ) h

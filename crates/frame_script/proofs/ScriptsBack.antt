@@ -160,7 +160,7 @@ compositor_leads script front (step ∷ steps) may few =
     let follow : MayFollow (book_of script.main).elements_added (ticks_of (front ++ step ∷ [])) steps =
     subst (λ (ts : List ℕ). MayFollow (book_of script.main).elements_added ts steps) (sym (ticks_of-push front step)) go.after in
     let here = compositor_step_leads (with_compositor script front) (at InCompositor (with_compositor script (front ++ step ∷ []))) step steps may.times
-        (compositor_is_made (with_compositor script front) step room go.made) in
+    (compositor_is_made (with_compositor script front) step room go.made) in
     let more = compositor_leads script (front ++ step ∷ []) steps follow (omega (arith, ap length moved, few)) in
     let whole : TextLeads (at InCompositor (with_compositor script (front ++ step ∷ []))) (flat_map compositor_line steps) (at InCompositor (with_compositor script (front ++ step ∷ steps))) =
     subst (λ (ss : List CompositorStep). TextLeads (at InCompositor (with_compositor script (front ++ step ∷ []))) (flat_map compositor_line steps) (at InCompositor (with_compositor script ss))) moved more in

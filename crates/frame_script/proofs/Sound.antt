@@ -304,11 +304,11 @@ main_fits script (name ∷ text) next main none h =
     let s = bind_ok (main_said (name ∷ text)) (main_made script) next h in
     picked (IsSound next) (bytes_eq name (codes "model")) (model_said text >>= λ line. done (SaysModel line)) (step_said name text >>= λ step. done (SaysStep step)) s.0
     (λ k.
-        let m = bind_ok (model_said text) (λ line. done (SaysModel line)) s.0 k in
-        model_begun_fits script m.0 next main none (line_in_range text m.0 m.1) (ap (main_made script) (ok_is (SaysModel m.0) s.0 m.2) ∙ s.2))
+    let m = bind_ok (model_said text) (λ line. done (SaysModel line)) s.0 k in
+    model_begun_fits script m.0 next main none (line_in_range text m.0 m.1) (ap (main_made script) (ok_is (SaysModel m.0) s.0 m.2) ∙ s.2))
     (λ k.
-        let m = bind_ok (step_said name text) (λ step. done (SaysStep step)) s.0 k in
-        step_made_fits script m.0 next main none (step_in_range name text m.0 m.1) (ap (main_made script) (ok_is (SaysStep m.0) s.0 m.2) ∙ s.2))
+    let m = bind_ok (step_said name text) (λ step. done (SaysStep step)) s.0 k in
+    step_made_fits script m.0 next main none (step_in_range name text m.0 m.1) (ap (main_made script) (ok_is (SaysStep m.0) s.0 m.2) ∙ s.2))
     s.1
 
 -- ---- lines of the compositor
@@ -348,8 +348,8 @@ compositor_fits script (name ∷ text) next main fits h =
     picked (IsSound next) (bytes_eq name (codes "word")) (word_said text >>= word_made script) (compositor_said name text >>= compositor_made script) next
     (λ k. let w = bind_ok (word_said text) (word_made script) next k in word_made_fits script w.0 next main fits w.2)
     (λ k.
-        let s = bind_ok (compositor_said name text) (compositor_made script) next k in
-        compositor_made_fits script s.0 next main fits (compositor_in_range name text s.0 s.1) s.2)
+    let s = bind_ok (compositor_said name text) (compositor_made script) next k in
+    compositor_made_fits script s.0 next main fits (compositor_in_range name text s.0 s.1) s.2)
     h
 
 -- ---- every line

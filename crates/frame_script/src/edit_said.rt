@@ -19,11 +19,7 @@ use tree_commit::{Base, Edit, MainStep};
 
 /// A step of main other than the adding of a model: its name, and the further fields of its line.
 #[tactic(auto, unfolding(crate::specs::Said::step_said))]
-pub(crate) fn step_said(
-    alloc: Global,
-    name: &[u8],
-    fields: &[&[u8]],
-) -> Result<MainStep, LineFault>
+pub(crate) fn step_said(alloc: Global, name: &[u8], fields: &[&[u8]]) -> Result<MainStep, LineFault>
     ensures { Gives step_of result (said.step_said name.now (map (λ field. field.now) fields.now)) }
 {
     if is(name, "commit") {
@@ -81,12 +77,7 @@ fn element_said(alloc: Global, fields: &[&[u8]]) -> Result<Edit, LineFault>
 }
 
 #[tactic(auto, unfolding(crate::specs::Said::new_element))]
-fn new_element(
-    alloc: Global,
-    id: &[u8],
-    opacity: &[u8],
-    list: &[&[u8]],
-) -> Result<Edit, LineFault>
+fn new_element(alloc: Global, id: &[u8], opacity: &[u8], list: &[&[u8]]) -> Result<Edit, LineFault>
     requires { length list.now ≤ MOST_OPERATIONS }
     ensures { Gives change_of result (said.new_element id.now opacity.now (map (λ field. field.now) list.now)) }
 {

@@ -17,14 +17,16 @@ mod model_line;
 mod model_said;
 mod model_with;
 pub mod print_laws;
-mod reading;
+mod printing;
 mod reader;
+mod reading;
 mod script;
 mod word;
 pub mod worked;
 
 pub use cause::Cause;
 pub use fault::ScriptFault;
+pub use printing::print_script;
 pub use reading::read_script;
 pub use script::Script;
 

@@ -114,9 +114,7 @@ impl MainPart {
         if self.steps.len() < MOST_STEPS as usize {
             Ok(())
         } else {
-            Err(LineFault::Refused(Cause::Edit(EditRefusal::Limit(
-                LimitName::Steps,
-            ))))
+            Err(LineFault::Refused(Cause::Edit(EditRefusal::Limit(LimitName::Steps))))
         }
     }
 
@@ -145,9 +143,7 @@ impl MainPart {
         if self.book.commits() < MOST_COMMITS {
             Ok(())
         } else {
-            Err(LineFault::Refused(Cause::Edit(EditRefusal::Limit(
-                LimitName::Commits,
-            ))))
+            Err(LineFault::Refused(Cause::Edit(EditRefusal::Limit(LimitName::Commits))))
         }
     }
 

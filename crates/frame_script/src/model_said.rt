@@ -86,11 +86,7 @@ fn ids_said(
     Ok((id, (group, (element, timeline))))
 }
 
-fn after_names(
-    alloc: Global,
-    names: &ModelNames,
-    fields: &[&[u8]],
-) -> Result<ModelLine, LineFault>
+fn after_names(alloc: Global, names: &ModelNames, fields: &[&[u8]]) -> Result<ModelLine, LineFault>
     requires { IfSome names.now.start (λ time. time ≤ LAST_TIME) }
     ensures value { Gives (λ line. line) result (said.after_names names.now (map (λ field. field.now) fields.now)) }
     ensures start { IfOk result (λ line. IfSome line.names.start (λ time. time ≤ LAST_TIME)) }

@@ -9,7 +9,6 @@ ghost use Rattle.frame_script.specs.States as state;
 ghost use Rattle.tree_commit.specs.Scripts.{IsWellFormed};
 ghost use Rattle.frame_script.specs.Views.{keys_of, stage_of, state_of};
 
-use crate::{Cause, Script, ScriptFault};
 use crate::compositor_part::CompositorPart;
 use crate::compositor_said::{compositor_said, word_said};
 use crate::draft::Draft;
@@ -19,6 +18,7 @@ use crate::lines::is_skipped;
 use crate::main_part::MainPart;
 use crate::model_said::model_said;
 use crate::word::is_word_of;
+use crate::{Cause, Script, ScriptFault};
 use anim_names::Lane;
 use script_fields::{fields_of, is};
 use std::alloc::{AllocError, Global};
@@ -145,12 +145,7 @@ impl Reader {
     }
 
     #[tactic(auto, unfolding(crate::specs::States::step_made))]
-    fn take_step(
-        &mut self,
-        alloc: Global,
-        name: &[u8],
-        fields: &[&[u8]],
-    ) -> Result<(), LineFault>
+    fn take_step(&mut self, alloc: Global, name: &[u8], fields: &[&[u8]]) -> Result<(), LineFault>
         requires draft { self.old.draft ≡ None }
         requires place { self.old.place ≡ Place.MainLines }
         ensures { Gives (λ _. state_of self.new) result
@@ -222,11 +217,7 @@ impl Reader {
     }
 
     #[tactic(auto, unfolding(crate::specs::States::in_compositor))]
-    fn take_compositor_fields(
-        &mut self,
-        alloc: Global,
-        fields: &[&[u8]],
-    ) -> Result<(), LineFault>
+    fn take_compositor_fields(&mut self, alloc: Global, fields: &[&[u8]]) -> Result<(), LineFault>
         requires draft { self.old.draft ≡ None }
         requires place { self.old.place ≡ Place.CompositorLines }
         ensures { Gives (λ _. state_of self.new) result
