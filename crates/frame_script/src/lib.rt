@@ -32,3 +32,6 @@ pub use script::Script;
 
 /// The most bytes that a script may have: 2^20.
 pub const MOST_BYTES: usize = 1 << 20;
+
+#[cfg(test)]
+mod tests;
