@@ -13,3 +13,4 @@ pub mod Lined
 pub mod ModelsBack
 pub mod StepsBack
 pub mod ScriptsBack
+pub mod TextSteps

@@ -17,6 +17,10 @@ mod model_line;
 mod model_said;
 mod model_with;
 pub mod print_laws;
+<<<<<<< HEAD
+=======
+mod printing;
+>>>>>>> 66082a2a038dded46ec77df0d535447d3701a0b9
 mod reader;
 mod reading;
 mod script;
@@ -25,8 +29,12 @@ pub mod worked;
 
 pub use cause::Cause;
 pub use fault::ScriptFault;
+pub use printing::print_script;
 pub use reading::read_script;
 pub use script::Script;
 
 /// The most bytes that a script may have: 2^20.
 pub const MOST_BYTES: usize = 1 << 20;
+
+#[cfg(test)]
+mod tests;
