@@ -17,10 +17,7 @@ mod model_line;
 mod model_said;
 mod model_with;
 pub mod print_laws;
-<<<<<<< HEAD
-=======
 mod printing;
->>>>>>> 66082a2a038dded46ec77df0d535447d3701a0b9
 mod reader;
 mod reading;
 mod script;
