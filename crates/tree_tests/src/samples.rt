@@ -132,9 +132,14 @@ pub fn set_transform(alloc: Global, id: u32) -> Result<Edit, Fail> {
 
 /// Adds a timeline that shows 0 at tick 0.
 pub fn add_timeline(id: u32) -> Result<Edit, Fail> {
+    add_timeline_from(id, 0)
+}
+
+/// Adds a timeline that shows 0 at this tick.
+pub fn add_timeline_from(id: u32, zero: u64) -> Result<Edit, Fail> {
     Ok(Edit::AddTimeline {
         id: TimelineId(id),
-        timeline: Timeline::new(0).ok_or("no timeline")?,
+        timeline: Timeline::new(zero).ok_or("no timeline")?,
     })
 }
 
