@@ -22,11 +22,11 @@ agree-itself model = record { element = refl; timeline = refl; start = refl; pro
 follows-empty : (tree : TreeLists) → length tree.models ≤ 1 → Follows empty_tree tree []
 follows-empty tree few = record {
   one_model = λ model twin there other same. absurd there;
-  marked = λ model there has. absurd has;
-  group_there = λ model there has. absurd has;
-  group_started = λ model there has. absurd has;
+  marked = λ model there has. absurd (false≢true has);
+  group_there = λ model there has. absurd (false≢true has);
+  group_started = λ model there has. absurd (false≢true has);
   groups_agree = λ model mate one other same. subst (λ (m : Spec). AgreeAsGroup model m) (only tree.models model mate few one other) (agree-itself model);
-  timelines = λ id there. absurd there;
+  timelines = λ id there. absurd (false≢true there);
 }
 
 pub follows-first : (host : Hosting) (tree : TreeLists) → host.active ≡ empty_commit → host.marks ≡ [] → length tree.models ≤ 1
@@ -34,10 +34,6 @@ pub follows-first : (host : Hosting) (tree : TreeLists) → host.active ≡ empt
 follows-first host tree active marks few =
     subst (λ (a : Committed). Follows a.tree tree host.marks) (sym active)
     (subst (λ (m : List Mark). Follows empty_tree tree m) (sym marks) (follows-empty tree few))
-
-from-true : (b : Bool) → IsTrue b → b ≡ true
-from-true true is = refl
-from-true false is = absurd is
 
 one-id : (models : List Spec) (one other : ℕ) → length models ≤ 1
     → list_any (λ (m : Spec). one == m.id) models ≡ true → list_any (λ (m : Spec). other == m.id) models ≡ true → one ≡ other
@@ -52,10 +48,10 @@ one-id (model ∷ more ∷ models) one other few a b = absurd (omega arith)
 known-there : (host : Hosting) (commit : Committed) (id : ℕ) → host.active ≡ empty_commit → host.marks ≡ []
     → IsKnown host commit id → has_model commit.tree id ≡ true
 known-there host commit id active marks (inl marked) =
-    absurd (subst (λ (m : List Mark). IsTrue (has_mark m id)) marks marked)
+    absurd (false≢true (subst (λ (m : List Mark). IsTrue (has_mark m id)) marks marked))
 known-there host commit id active marks (inr (inl there)) =
-    absurd (subst (λ (a : Committed). IsTrue (has_model a.tree id)) active there)
-known-there host commit id active marks (inr (inr there)) = from-true (has_model commit.tree id) there
+    absurd (false≢true (subst (λ (a : Committed). IsTrue (has_model a.tree id)) active there))
+known-there host commit id active marks (inr (inr there)) = there
 
 pub room-first : (host : Hosting) (commit : Committed) → host.active ≡ empty_commit → host.marks ≡ [] → 1 ≤ host.models
     → length commit.tree.models ≤ 1 → HasRoomFor host commit

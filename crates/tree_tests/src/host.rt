@@ -30,7 +30,12 @@ fn fading(rt: &impl Abort, alloc: Global, start: Option<u32>) -> Result<Arc<Comm
     Ok(main.commit()?)
 }
 
-fn fill(rt: &impl Abort, alloc: Global, main: &mut MainTree, start: Option<u32>) -> Result<(), Fail> {
+fn fill(
+    rt: &impl Abort,
+    alloc: Global,
+    main: &mut MainTree,
+    start: Option<u32>,
+) -> Result<(), Fail> {
     make(rt, main, samples::add_element(alloc, 1)?);
     make(rt, main, samples::add_timeline_from(1, 1000)?);
     let spec = samples::model(rt, alloc, Names(1, 1, 1, 1), start, Property::Opacity)?;
@@ -54,30 +59,25 @@ fn begin(
     ensures { OnOk result (host.new.active ≡ commit.now.value) }
 {
     let nothing = Commit::empty(alloc)?;
-    push_first(rt, host, commit)?;
+    assert!(rt; commit.model_count() <= 1);
+    push_first(host, commit)?;
     host.activate(&nothing, commit);
     Ok(())
 }
 
-fn push_first(rt: &impl Abort, host: &mut AnimHost, commit: &Arc<Commit>) -> Result<(), AllocError>
+fn push_first(host: &mut AnimHost, commit: &Arc<Commit>) -> Result<(), AllocError>
     requires active { host.old.active ≡ empty_commit }
     requires pending { host.old.pending ≡ None }
     requires marks { host.old.marks ≡ [] }
     requires models { 1 ≤ host.old.models }
+    requires few { length commit.now.value.tree.models ≤ 1 }
     ensures active { host.new.active ≡ host.old.active }
     ensures pending { OnOk result (host.new.pending ≡ Some commit.now.value) }
 {
-    let count = commit.model_count();
-    assert!(rt; count <= 1);
     host.push_commit(commit)
 }
 
-fn tick(
-    rt: &impl Abort,
-    host: &mut AnimHost,
-    commit: &Commit,
-    time: u64,
-) -> Result<(), AllocError>
+fn tick(rt: &impl Abort, host: &mut AnimHost, commit: &Commit, time: u64) -> Result<(), AllocError>
     requires { host.old.active ≡ commit.now }
     ensures { host.new.active ≡ commit.now }
 {
@@ -89,11 +89,16 @@ fn tick(
 // ---- tests
 
 // What the first tick of a model records, by its given start: the timeline shows 0 at 1000.
-const STARTS: [(Option<u32>, u64, i64); 3] =
-    [(None, 2000, 1000), (None, 500, -500), (Some(5000), 2000, 5000)];
+const STARTS: [(Option<u32>, u64, i64); 3] = [
+    (None, 2000, 1000),
+    (None, 500, -500),
+    (Some(5000), 2000, 5000),
+];
 
 #[test]
-fn the_recorded_start_is_the_given_one_or_what_the_timeline_shows(rt: HostRuntime) -> Result<(), Fail> {
+fn the_recorded_start_is_the_given_one_or_what_the_timeline_shows(
+    rt: HostRuntime,
+) -> Result<(), Fail> {
     for (given, time, start) in STARTS {
         expect_start(&rt, rt.alloc(), given, time, start)?;
     }
@@ -137,22 +142,29 @@ fn a_model_finishes_once(rt: HostRuntime) -> Result<(), Fail> {
     Ok(())
 }
 
-// How many news each tick makes: the start at 2000, and the finish at the first tick that is as long after it as the
-// model lasts.
-const NEWS: [(u64, usize); 4] = [
-    (2000, 1),
-    (samples::DURATION + 1999, 0),
-    (samples::DURATION + 2000, 1),
-    (samples::DURATION + 2001, 0),
-];
-
+// The start at 2000, and the finish at the first tick that is as long after it as the model lasts.
 fn expect_ticks(rt: &impl Abort, host: &mut AnimHost, commit: &Commit) -> Result<(), AllocError>
     requires { host.old.active ≡ commit.now }
 {
-    for (time, count) in NEWS {
-        host.clear_news();
-        tick(rt, host, commit, time)?;
-        assert!(rt; host.news().len() == count);
-    }
+    expect_tick(rt, host, commit, 2000, 1)?;
+    expect_tick(rt, host, commit, samples::DURATION + 1999, 0)?;
+    expect_tick(rt, host, commit, samples::DURATION + 2000, 1)?;
+    expect_tick(rt, host, commit, samples::DURATION + 2001, 0)
+}
+
+// The tick makes so many marks.
+fn expect_tick(
+    rt: &impl Abort,
+    host: &mut AnimHost,
+    commit: &Commit,
+    time: u64,
+    count: usize,
+) -> Result<(), AllocError>
+    requires { host.old.active ≡ commit.now }
+    ensures { host.new.active ≡ commit.now }
+{
+    host.clear_news();
+    tick(rt, host, commit, time)?;
+    assert!(rt; host.news().len() == count);
     Ok(())
 }
