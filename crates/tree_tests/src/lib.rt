@@ -13,6 +13,10 @@ mod commits;
 #[cfg(test)]
 mod edits;
 #[cfg(test)]
+mod hearing;
+#[cfg(test)]
+mod host;
+#[cfg(test)]
 mod samples;
 #[cfg(test)]
 mod trees;

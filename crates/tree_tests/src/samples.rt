@@ -94,13 +94,24 @@ pub fn model(
     start: Option<u32>,
     property: Property,
 ) -> Result<Arc<ModelSpec>, Fail> {
+    model_under(rt, alloc, Policy::Auto, names, start, property)
+}
+
+/// The same, under this policy.
+pub fn model_under(
+    rt: &impl Abort,
+    alloc: Global,
+    policy: Policy,
+    names: Names,
+    start: Option<u32>,
+    property: Property,
+) -> Result<Arc<ModelSpec>, Fail> {
     let curve = curve_of(rt, alloc, property)?;
     let once = Iterations::Finite(1000);
     let timing = Timing::new(DURATION, 0, once, 0, Direction::Normal, Fill::Neither, 1000)?;
     assert!(rt; timing.duration() == curve.duration());
     let (id, group) = (ModelId(names.0), GroupId(names.1));
     let (element, timeline) = (ElementId(names.2), TimelineId(names.3));
-    let policy = Policy::Auto;
     let start = given(start);
     let spec = ModelSpec::new(id, group, element, timeline, start, timing, policy, curve);
     Ok(Arc::new(alloc, spec)?)
@@ -132,9 +143,14 @@ pub fn set_transform(alloc: Global, id: u32) -> Result<Edit, Fail> {
 
 /// Adds a timeline that shows 0 at tick 0.
 pub fn add_timeline(id: u32) -> Result<Edit, Fail> {
+    add_timeline_from(id, 0)
+}
+
+/// Adds a timeline that shows 0 at this tick.
+pub fn add_timeline_from(id: u32, zero: u64) -> Result<Edit, Fail> {
     Ok(Edit::AddTimeline {
         id: TimelineId(id),
-        timeline: Timeline::new(0).ok_or("no timeline")?,
+        timeline: Timeline::new(zero).ok_or("no timeline")?,
     })
 }
 
