@@ -19,9 +19,9 @@ pub struct CubicShape {
     y1: i32,
     x2: u32,
     y2: i32,
-    // How far across the curve is at each end of its intervals.
+    // How far across the curve is at the ends of sixteen intervals, in the unit of sixteen steps.
     #[derive_where(skip)]
-    starts: [u128; START_COUNT],
+    starts: [u32; START_COUNT],
 }
 
 impl Model for CubicShape {
@@ -115,7 +115,7 @@ impl CubicShape {
         curve::level(self.y1, self.y2, curve::place(self.x1, self.x2, p))
     }
 
-    /// The same as [`CubicShape::value`], several times as fast: the start table leaves a sixteenth of the curve to
+    /// The same as [`CubicShape::value`], in less than half its time: the start table leaves a sixteenth of the curve to
     /// search, and each look aims at where the curve should be as far across as p.
     #[tactic(auto, unfolding(crate::specs::Cubics::cubic_value))]
     pub fn quick_value(&self, p: u32) -> i64

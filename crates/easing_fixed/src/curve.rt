@@ -20,8 +20,8 @@ pub(crate) fn across(x1: u32, x2: u32, s: u32) -> u128
     u128::from(s) * u128::from(ascent(x1, x2, ONE - s, s))
 }
 
-// How far across that is for each step.
-fn ascent(x1: u32, x2: u32, rest: u32, s: u32) -> u64
+/// How far across that is for each step.
+pub(crate) fn ascent(x1: u32, x2: u32, rest: u32, s: u32) -> u64
     requires first { x1 ≤ END }
     requires second { x2 ≤ END }
     requires steps { rest + s ≡ ONE }

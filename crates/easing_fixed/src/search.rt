@@ -3,11 +3,11 @@
 //! A bracket is two steps, at the first of which the curve is not past the progress, and at the second it is. Whatever
 //! step within is looked at next, one of the two halves is a bracket again. So the aim decides only how long it takes.
 
-ghost use Rattle.std.specs.Prelude.{◌≡◌, ◌+◌, ◌^◌, ◌<◌, ◌≤◌, unsigned_abs, slice_index};
+ghost use Rattle.std.specs.Prelude.{◌≡◌, ◌+◌, ◌*◌, ◌/◌, ◌^◌, ◌<◌, ◌≤◌, unsigned_abs, slice_index};
 ghost use Rattle.easing_fixed.specs.Cubics.{across, bound, place};
-ghost use Rattle.easing_fixed.specs.Starts.{starts_of};
+ghost use Rattle.easing_fixed.specs.Starts.{intervals, stride, starts_of};
 
-use crate::curve::{UNIT, across};
+use crate::curve::{UNIT, across, ascent};
 use crate::start::{START_COUNT, STRIDE};
 use crate::{END, ONE};
 
@@ -15,7 +15,7 @@ use crate::{END, ONE};
 const AIMED: u32 = 6;
 
 /// The greatest step at which the curve is no farther across than p, by the curve's start table.
-pub(crate) fn quick_place(x1: u32, x2: u32, starts: &[u128; START_COUNT], p: u32) -> u32
+pub(crate) fn quick_place(x1: u32, x2: u32, starts: &[u32; START_COUNT], p: u32) -> u32
     requires first { x1 ≤ END }
     requires second { x2 ≤ END }
     requires table { starts.now ≡ starts_of x1 x2 }
@@ -26,23 +26,26 @@ pub(crate) fn quick_place(x1: u32, x2: u32, starts: &[u128; START_COUNT], p: u32
     if p == ONE {
         return ONE;
     }
-    let bound = u128::from(p) * u128::from(UNIT);
+    let bound = table_bound(p);
     let interval = interval_of(starts, bound);
-    let begin = starts[interval];
     let low = interval as u32 * STRIDE;
-    let rise = (starts[interval + 1] - begin) / u128::from(STRIDE);
-    place_between(
-        x1,
-        x2,
-        p,
-        low,
-        low + STRIDE,
-        aim_from(low, bound, begin, rise),
-    )
+    let pace = pace_of(starts[interval], starts[interval + 1]);
+    let near = along_chord(low, starts[interval], bound, pace);
+    let aim = along_slope(x1, x2, p, near, pace);
+    place_between(x1, x2, p, low, low + STRIDE, aim)
+}
+
+// The progress in the unit of the start table, rounded down.
+fn table_bound(p: u32) -> u32
+    requires { p < ONE }
+    ensures value { result ≡ p * END / 256 }
+    ensures size { result < intervals * intervals * intervals * END }
+{
+    ((u64::from(p) * u64::from(END)) >> 8) as u32
 }
 
 // The table's interval at whose beginning the curve is not past the bound, and at whose end it is.
-fn interval_of(starts: &[u128; START_COUNT], bound: u128) -> usize
+fn interval_of(starts: &[u32; START_COUNT], bound: u32) -> usize
     requires begun { slice_index starts.now 0 ≤ bound }
     requires ended { bound < slice_index starts.now 16 }
     ensures within { result < 16 }
@@ -56,7 +59,7 @@ fn interval_of(starts: &[u128; START_COUNT], bound: u128) -> usize
 }
 
 // Of two neighbours of this width in intervals, where the one begins in which the curve passes the bound.
-fn later_half(starts: &[u128; START_COUNT], low: usize, width: usize, bound: u128) -> usize
+fn later_half(starts: &[u32; START_COUNT], low: usize, width: usize, bound: u32) -> usize
     requires fits { low + width + width ≤ 16 }
     requires begun { slice_index starts.now low ≤ bound }
     requires ended { bound < slice_index starts.now (low + width + width) }
@@ -66,6 +69,48 @@ fn later_half(starts: &[u128; START_COUNT], low: usize, width: usize, bound: u12
 {
     let middle = low + width;
     if starts[middle] <= bound { middle } else { low }
+}
+
+// How many steps take the curve on by one, from an interval's two numbers. A pace is in 2^-32 steps, and by one step the
+// curve goes on in units of 2^44.
+fn pace_of(begin: u32, end: u32) -> i64 {
+    i64::from(u32::MAX / (end.saturating_sub(begin) >> 12).max(1))
+}
+
+// A step of the interval that begins at `low`: the one at which its chord is as far across as the bound. It is a guess.
+fn along_chord(low: u32, begin: u32, bound: u32, pace: i64) -> u32
+    requires { low + stride ≤ ONE }
+    ensures { result < ONE }
+{
+    let gap = i64::from(bound) - i64::from(begin);
+    let steps = gap.wrapping_mul(pace) >> 28;
+    low + steps.clamp(0, i64::from(STRIDE) - 1) as u32
+}
+
+// The step at which the tangent at this one is as far across as p. It is a guess: the tangent's pace is made from the
+// chord's by one step of Newton's method for a reciprocal, which takes no division.
+fn along_slope(x1: u32, x2: u32, p: u32, step: u32, pace: i64) -> i64
+    requires first { x1 ≤ END }
+    requires second { x2 ≤ END }
+    requires progress { p ≤ ONE }
+    requires on { step < ONE }
+{
+    let reached = rough_across(x1, x2, step);
+    let rise = rough_across(x1, x2, step + 1).wrapping_sub(reached) >> 24;
+    let off = (rise.wrapping_mul(pace) >> 16).wrapping_mul(pace) >> 16;
+    let pace = pace.wrapping_mul(2).wrapping_sub(off);
+    let bound = i64::from(p) * i64::from(END) << 20;
+    let gap = bound.wrapping_sub(reached) >> 24;
+    i64::from(step).wrapping_add(gap.wrapping_mul(pace) >> 32)
+}
+
+// About how far across the curve is at a step, in units of 2^20.
+fn rough_across(x1: u32, x2: u32, step: u32) -> i64
+    requires first { x1 ≤ END }
+    requires second { x2 ≤ END }
+    requires within { step ≤ ONE }
+{
+    i64::from(step).wrapping_mul((ascent(x1, x2, ONE - step, step) >> 20) as i64)
 }
 
 // The place, where these two steps are a bracket of it.
