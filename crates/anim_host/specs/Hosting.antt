@@ -5,7 +5,7 @@ use Rattle.tree_commit.specs.declared.runs.shown.Shown.{Shown}
 use Rattle.tree_commit.specs.Trees.{Committed, empty_commit, has_model}
 use Rattle.tree_commit.specs.Marks.{marks_of_tick, marks_of_activation}
 use Rattle.tree_commit.specs.Frames.{shown_by}
-use Rattle.tree_commit.specs.Follows.{IsAmong, has_mark}
+use Rattle.tree_commit.specs.Follows.{AreDistinct, IsAmong, has_mark}
 
 -- The active commit and perhaps a pending one; all marks so far; how many of them there were when the news were
 -- cleared; the time of the last tick; and for how many keyframe models the host was made.
@@ -57,11 +57,6 @@ shown_in host id = if has_model host.active.tree id then shown_by host.marks id 
 abbrev pub IsKnown : Hosting → Committed → ℕ → Type 0
 IsKnown host commit id =
     IsTrue (has_mark host.marks id) ⊎ (IsTrue (has_model host.active.tree id) ⊎ IsTrue (has_model commit.tree id))
-
--- each number is another
-abbrev pub AreDistinct : List ℕ → Type 0
-AreDistinct [] = Unit {0}
-AreDistinct (id ∷ ids) = (IsAmong id ids → ⊥) × AreDistinct ids
 
 -- The models that have a mark, are in the active commit or are in this one are together at most those that the host
 -- was made for: a list of such models, each another, has no more entries.

@@ -8,8 +8,7 @@ use Rattle.anim_names.specs.declared.limit.TheConstants.{MOST_MODELS}
 use Rattle.keyframe_model.specs.Models.{Spec}
 use Rattle.tree_commit.specs.Edits.{Change, AddElement, RemoveElement, SetOpacity, SetTransform, AddTimeline, AddModel, RemoveModel, Book, is_in, without, edit_refusal, book_after, book_after_commit}
 use Rattle.tree_commit.specs.Scripts.{StepOfMain, EditStep, CommitStep, DrainStep, is_allowed, are_allowed, book_after_step}
-use Rattle.tree_commit.specs.Follows.{IsAmong}
-use Rattle.run_laws.specs.Follows.{AreDistinct}
+use Rattle.tree_commit.specs.Follows.{AreDistinct, IsAmong}
 use Rattle.run_laws.proofs.Births.{Birth, birth, births, births_of-cases, accepted, commits-edit}
 
 -- ---- ids stay

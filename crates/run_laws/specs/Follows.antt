@@ -5,7 +5,7 @@ use Rattle.tree_commit.specs.Trees.{has_model}
 use Rattle.tree_commit.specs.Edits.{is_in}
 use Rattle.tree_commit.specs.Scripts.{ScriptLists, book_of}
 use Rattle.tree_commit.specs.Runs.{Lanes}
-use Rattle.tree_commit.specs.Follows.{Follows, IsAmong, has_mark}
+use Rattle.tree_commit.specs.Follows.{AreDistinct, Follows, IsAmong, has_mark}
 
 -- ---- the pending commit
 
@@ -22,11 +22,6 @@ IsKnown lanes id =
     IsTrue (has_mark lanes.compositor.marks id)
     ⊎ (IsTrue (has_model lanes.compositor.active.tree id)
     ⊎ IsSomeAnd lanes.compositor.pending (λ pending. IsTrue (has_model pending.tree id)))
-
--- each number is another
-abbrev pub AreDistinct : List ℕ → Type 0
-AreDistinct [] = Unit {0}
-AreDistinct (id ∷ ids) = (IsAmong id ids → ⊥) × AreDistinct ids
 
 -- Each model that the compositor knows is one that the script adds, so they are together at most those, and these are at
 -- most as many as may be added.

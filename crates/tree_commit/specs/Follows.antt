@@ -12,6 +12,11 @@ abbrev pub IsAmong : {A : Type 0} → A → List A → Type 0
 IsAmong x [] = ⊥
 IsAmong x (y ∷ ys) = (x ≡ y) ⊎ IsAmong x ys
 
+-- each element of the list is another
+abbrev pub AreDistinct : {A : Type 0} → List A → Type 0
+AreDistinct [] = Unit {0}
+AreDistinct (x ∷ xs) = (IsAmong x xs → ⊥) × AreDistinct xs
+
 -- Two models may be of one group: they agree in element, timeline and given start, and are of two properties.
 pub record AgreeAsGroup (one other : Spec) : Type 0 where
   pub element : one.element ≡ other.element

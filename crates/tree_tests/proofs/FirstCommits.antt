@@ -6,8 +6,8 @@ use Rattle.std.proofs.lemmas.Bool.{eqb-true, false≢true}
 use Rattle.keyframe_model.specs.Models.{Spec}
 use Rattle.tree_commit.specs.declared.runs.mark.Mark.{Mark}
 use Rattle.tree_commit.specs.Trees.{Committed, TreeLists, empty_commit, empty_tree, has_model}
-use Rattle.tree_commit.specs.Follows.{AgreeAsGroup, Follows, IsAmong, has_mark}
-use Rattle.anim_host.specs.Hosting.{AreDistinct, HasRoomFor, Hosting, IsKnown}
+use Rattle.tree_commit.specs.Follows.{AgreeAsGroup, AreDistinct, Follows, IsAmong, has_mark}
+use Rattle.anim_host.specs.Hosting.{HasRoomFor, Hosting, IsKnown}
 
 only : (models : List Spec) (one other : Spec) → length models ≤ 1 → IsAmong one models → IsAmong other models → one ≡ other
 only [] one other few a b = absurd a

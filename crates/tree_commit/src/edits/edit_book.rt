@@ -90,6 +90,13 @@ impl EditBook {
         self.commits
     }
 
+    /// How often an element was added, an id that was there before included.
+    pub fn elements_added(&self) -> u32
+        ensures { result ≡ self.now.elements_added }
+    {
+        self.elements_added
+    }
+
     /// Whether an edit may be made: why it is refused, the first reason in order.
     #[tactic(auto, unfolding(crate::specs::Edits::edit_refusal))]
     pub fn check(&self, edit: &Edit) -> Result<(), EditRefusal>
