@@ -11,10 +11,10 @@ use Rattle.anim_delegate.specs.Table.{verdict_on, is_retire}
 use Rattle.keyframe_model.specs.Models.{Spec}
 use Rattle.tree_commit.specs.declared.edits.refusal.EditRefusal.TheVariants.{ModelUnknown}
 use Rattle.tree_commit.specs.Edits.{RemoveModel, book_after, edit_refusal, is_in, tree_after, without_model}
-use Rattle.tree_commit.specs.Runs.{model_of_event, tree_after_hearing, tree_after_verdict}
+use Rattle.tree_commit.specs.Runs.{model_of_event, tree_after_hearing, tree_after_verdict, retires, retires_found}
 use Rattle.tree_commit.specs.Tables.{StandUnderOwnIds, spec_of}
 use Rattle.tree_commit.specs.Trees.{TreeLists, has_model, model_with}
-use Rattle.main_tree.specs.EditedTrees.{EditedTree, GoesWithBook, after_edit, after_hearing, retires, retires_found}
+use Rattle.main_tree.specs.EditedTrees.{EditedTree, GoesWithBook, after_edit, after_hearing}
 use Rattle.main_tree.proofs.TableEdits.{absent_model}
 use borrow.Author.Tests.{eqb-true}
 

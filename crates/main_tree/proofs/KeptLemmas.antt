@@ -7,10 +7,10 @@ use Rattle.std.proofs.lemmas.List.Folds.{list_any-append}
 use Rattle.transform_ops.specs.declared.op.TransformOp.{TransformOp}
 use Rattle.keyframe_model.specs.Models.{Spec}
 use Rattle.tree_commit.specs.Trees.{Element, Clock, Look}
-use Rattle.tree_commit.specs.Edits.{Change, AddElement, RemoveElement, SetOpacity, SetTransform, AddTimeline, AddModel, RemoveModel, edit_refusal, is_in, without, with_look, tree_after, book_after}
+use Rattle.tree_commit.specs.Edits.{Change, AddElement, RemoveElement, SetOpacity, SetTransform, AddTimeline, AddModel, RemoveModel, edit_refusal, is_in, without, with_look, tree_after, book_after, finds_its_target}
 use Rattle.tree_commit.specs.Tables.{has_timeline}
 use Rattle.tree_commit.proofs.BookLemmas.{known_timeline}
-use Rattle.main_tree.specs.EditedTrees.{EditedTree, GoesWithBook, after_edit, finds_its_target}
+use Rattle.main_tree.specs.EditedTrees.{EditedTree, GoesWithBook, after_edit}
 
 -- ---- lists
 

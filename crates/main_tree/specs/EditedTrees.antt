@@ -1,17 +1,13 @@
 -- Main's tree with what edits of it are checked against.
-use Rattle.std.specs.Prelude.{◌≡◌, ℕ, List, Bool, true, false, IsTrue, map, All, Option, Some, None}
+use Rattle.std.specs.Prelude.{◌≡◌, ℕ, List, IsTrue, map, All}
 use Rattle.std.specs.declared.alloc.Global.{Global}
 use Rattle.std.specs.declared.sync.Arc.{Arc}
 use Rattle.anim_names.specs.declared.event.AnimEvent.{AnimEvent}
-use Rattle.anim_delegate.specs.Table.{verdict_on, is_retire}
 use Rattle.keyframe_model.specs.Models.{Spec}
 use Rattle.tree_commit.specs.declared.base.Base.{Base}
-use Rattle.tree_commit.specs.declared.edits.fault.EditFault.{EditFault}
-use Rattle.tree_commit.specs.declared.edits.fault.EditFault.TheVariants.{Refused, NoMemory}
-use Rattle.tree_commit.specs.declared.edits.refusal.EditRefusal.{EditRefusal}
-use Rattle.tree_commit.specs.Trees.{TreeLists, empty_tree, has_model, model_with}
-use Rattle.tree_commit.specs.Edits.{Change, AddElement, RemoveElement, SetOpacity, SetTransform, AddTimeline, AddModel, RemoveModel, Book, new_book, is_in, tree_after, book_after, book_after_commit}
-use Rattle.tree_commit.specs.Runs.{model_of_event, tree_after_hearing}
+use Rattle.tree_commit.specs.Trees.{TreeLists, empty_tree}
+use Rattle.tree_commit.specs.Edits.{Change, Book, new_book, is_in, tree_after, book_after, book_after_commit}
+use Rattle.tree_commit.specs.Runs.{tree_after_hearing}
 use Rattle.tree_commit.specs.Tables.{tree_of, HasAllTimelines}
 
 -- ---- the tree and its book
@@ -40,32 +36,6 @@ after_commit edited = record edited { book = book_after_commit edited.book }
 -- after main has heard an event: the book stays
 abbrev pub after_hearing : EditedTree → AnimEvent → EditedTree
 after_hearing edited event = record edited { tree = tree_after_hearing edited.tree event }
-
--- ---- answers
-
-abbrev pub retires_found : AnimEvent → Option Spec → Bool
-retires_found event None = false
-retires_found event (Some model) = is_retire (verdict_on model.policy event)
-
--- hearing the event retires a model: its model is still there, and its policy asks for it
-abbrev pub retires : TreeLists → AnimEvent → Bool
-retires tree event = retires_found event (model_with tree (model_of_event event))
-
--- Whether an edit that is not refused finds what it is about. Only a model that is to be removed may be gone.
-abbrev pub finds_its_target : TreeLists → Change → Bool
-finds_its_target tree (AddElement id look) = true
-finds_its_target tree (RemoveElement id) = true
-finds_its_target tree (SetOpacity id opacity) = true
-finds_its_target tree (SetTransform id transform) = true
-finds_its_target tree (AddTimeline id origin) = true
-finds_its_target tree (AddModel model) = true
-finds_its_target tree (RemoveModel id) = has_model tree id
-
--- the refusal, where a fault is one
-abbrev pub refusal_in : Option EditFault → Option EditRefusal
-refusal_in None = None
-refusal_in (Some NoMemory) = None
-refusal_in (Some (Refused refusal)) = Some refusal
 
 -- ---- the tree beside its book
 

@@ -1,8 +1,8 @@
 ghost use Rattle.std.specs.Prelude.{◌≡◌, ◌==◌, ◌<◌, ◌≤◌, false, None, map, option_map, IfOk, OnOk, OnErr};
 ghost use Rattle.std.specs.Result.{result_err};
 ghost use Rattle.tree_commit.specs.Trees.{has_model, model_with, next_commit};
-ghost use Rattle.tree_commit.specs.Runs.{model_of_event};
-ghost use Rattle.tree_commit.specs.Edits.{AddElement, AddModel, AddTimeline, RemoveElement, RemoveModel, SetOpacity, SetTransform, edit_refusal, with_look, without};
+ghost use Rattle.tree_commit.specs.Runs.{model_of_event, retires};
+ghost use Rattle.tree_commit.specs.Edits.{AddElement, AddModel, AddTimeline, RemoveElement, RemoveModel, SetOpacity, SetTransform, edit_refusal, finds_its_target, refusal_in, with_look, without};
 ghost use Rattle.tree_commit.specs.Tables.{element_of};
 ghost use Rattle.tree_commit.specs.Views.{change_of, look_of};
 
@@ -58,7 +58,7 @@ impl Model for MainTree {
 }
 
 impl MainTree {
-    ghost use Rattle.main_tree.specs.EditedTrees.{after_commit, after_edit, after_hearing, finds_its_target, new_tree, refusal_in, retires, GoesWithBook};
+    ghost use Rattle.main_tree.specs.EditedTrees.{after_commit, after_edit, after_hearing, new_tree, GoesWithBook};
 
     /// The tree before any edit, which has nothing in it.
     pub fn new(alloc: Global) -> Result<MainTree, AllocError>

@@ -1,5 +1,5 @@
 -- Edits of main's tree: what each changes, and why one is refused.
-use Rattle.std.specs.Prelude.{ℕ, ◌+◌, ◌==◌, nat_le, nat_lt, Bool, false, not, ◌&&◌, ◌||◌, nat_eq, if◌then◌else◌, List, [], ◌∷◌, ◌++◌, length, find, Option, Some, None}
+use Rattle.std.specs.Prelude.{ℕ, ◌+◌, ◌==◌, nat_le, nat_lt, Bool, true, false, not, ◌&&◌, ◌||◌, nat_eq, if◌then◌else◌, List, [], ◌∷◌, ◌++◌, length, find, Option, Some, None}
 use Rattle.std.specs.List.{list_any}
 use Rattle.std.specs.Option.{option_eq}
 use Rattle.anim_names.specs.declared.limit.LimitName.TheVariants.{Elements, Models, Timelines}
@@ -7,9 +7,11 @@ use Rattle.anim_names.specs.declared.limit.TheConstants.{MOST_ELEMENTS, MOST_MOD
 use Rattle.anim_names.specs.declared.property.Property.{Property}
 use Rattle.transform_ops.specs.declared.op.TransformOp.{TransformOp}
 use Rattle.keyframe_model.specs.Models.{Spec, property_of, same_property}
+use Rattle.tree_commit.specs.declared.edits.fault.EditFault.{EditFault}
+use Rattle.tree_commit.specs.declared.edits.fault.EditFault.TheVariants.{Refused, NoMemory}
 use Rattle.tree_commit.specs.declared.edits.refusal.EditRefusal.{EditRefusal}
 use Rattle.tree_commit.specs.declared.edits.refusal.EditRefusal.TheVariants.{ElementThere, ElementNotThere, ModelIdUsed, ModelUnknown, TimelineThere, TimelineUnknown, GroupClosed, GroupMixed, Limit}
-use Rattle.tree_commit.specs.Trees.{Look, Element, TreeLists}
+use Rattle.tree_commit.specs.Trees.{Look, Element, TreeLists, has_model}
 
 -- ---- edits and their effect
 
@@ -124,6 +126,22 @@ edit_refusal book (AddTimeline id origin) =
 edit_refusal book (AddModel model) =
     model_refusal book model.id model.group model.element model.timeline model.start (property_of model)
 edit_refusal book (RemoveModel id) = if is_in id book.models then None else Some ModelUnknown
+
+-- the refusal, where a fault is one
+abbrev pub refusal_in : Option EditFault → Option EditRefusal
+refusal_in None = None
+refusal_in (Some NoMemory) = None
+refusal_in (Some (Refused refusal)) = Some refusal
+
+-- Whether an edit that is not refused finds what it is about. Only a model that is to be removed may be gone.
+abbrev pub finds_its_target : TreeLists → Change → Bool
+finds_its_target tree (AddElement id look) = true
+finds_its_target tree (RemoveElement id) = true
+finds_its_target tree (SetOpacity id opacity) = true
+finds_its_target tree (SetTransform id transform) = true
+finds_its_target tree (AddTimeline id origin) = true
+finds_its_target tree (AddModel model) = true
+finds_its_target tree (RemoveModel id) = has_model tree id
 
 -- ---- what is kept of an edit
 

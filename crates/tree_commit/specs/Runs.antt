@@ -1,5 +1,5 @@
 -- A run: the state of each lane, what each step makes of it, and the report of a script for any word of its lanes.
-use Rattle.std.specs.Prelude.{ℕ, nat_lt, ◌&&◌, is_none, if◌then◌else◌, List, [], ◌∷◌, ◌++◌, length, drop, map, fold, Option, Some, None}
+use Rattle.std.specs.Prelude.{ℕ, nat_lt, Bool, false, ◌&&◌, is_none, if◌then◌else◌, List, [], ◌∷◌, ◌++◌, length, drop, map, fold, Option, Some, None}
 use Rattle.anim_names.specs.declared.event.AnimEvent.{AnimEvent}
 use Rattle.anim_names.specs.declared.event.AnimEvent.TheVariants.{Started, Finished, Aborted}
 use Rattle.anim_names.specs.declared.lane.Lane.{Lane}
@@ -32,6 +32,14 @@ tree_after_verdict tree event (Some model) =
 -- main's tree after main has heard an event
 unfoldable pub tree_after_hearing : TreeLists → AnimEvent → TreeLists
 tree_after_hearing tree event = tree_after_verdict tree event (model_with tree (model_of_event event))
+
+-- hearing the event retires a model: its model is still there, and its policy asks for it
+abbrev pub retires_found : AnimEvent → Option Spec → Bool
+retires_found event None = false
+retires_found event (Some model) = is_retire (verdict_on model.policy event)
+
+abbrev pub retires : TreeLists → AnimEvent → Bool
+retires tree event = retires_found event (model_with tree (model_of_event event))
 
 -- ---- main's lane
 
