@@ -1,11 +1,11 @@
 -- What a host holds, and what each of its calls makes of it.
-use Rattle.std.specs.Prelude.{◌⊎◌, ℕ, ◌≤◌, IsTrue, if◌then◌else◌, List, [], ◌∷◌, ◌++◌, length, Option, Some, None}
+use Rattle.std.specs.Prelude.{ℕ, if◌then◌else◌, List, [], ◌++◌, Option, Some, None}
 use Rattle.tree_commit.specs.declared.runs.mark.Mark.{Mark}
 use Rattle.tree_commit.specs.declared.runs.shown.Shown.{Shown}
 use Rattle.tree_commit.specs.Trees.{Committed, empty_commit, has_model}
 use Rattle.tree_commit.specs.Marks.{marks_of_tick, marks_of_activation}
 use Rattle.tree_commit.specs.Frames.{shown_by}
-use Rattle.tree_commit.specs.Follows.{AreDistinct, IsAmong, has_mark}
+use Rattle.tree_commit.specs.Follows.{KnowsAtMost}
 
 -- The active commit and perhaps a pending one; all marks so far; how many of them there were when the news were
 -- cleared; the time of the last tick; and for how many keyframe models the host was made.
@@ -51,16 +51,7 @@ after_tick host time = record host {
 abbrev pub shown_in : Hosting → ℕ → Option Shown
 shown_in host id = if has_model host.active.tree id then shown_by host.marks id else None
 
--- ---- how many models there are
-
--- the model has a mark, or is in the active commit or in this one
-abbrev pub IsKnown : Hosting → Committed → ℕ → Type 0
-IsKnown host commit id =
-    IsTrue (has_mark host.marks id) ⊎ (IsTrue (has_model host.active.tree id) ⊎ IsTrue (has_model commit.tree id))
-
 -- The models that have a mark, are in the active commit or are in this one are together at most those that the host
--- was made for: a list of such models, each another, has no more entries.
+-- was made for.
 abbrev pub HasRoomFor : Hosting → Committed → Type 0
-HasRoomFor host commit =
-    (ids : List ℕ) → AreDistinct ids → ((id : ℕ) → IsAmong id ids → IsKnown host commit id)
-    → length ids ≤ host.models
+HasRoomFor host commit = KnowsAtMost host.models host.active.tree commit.tree host.marks

@@ -1,9 +1,9 @@
 -- What a commit is that may become the pending one: it goes on from the active commit and from the marks so far.
-use Rattle.std.specs.Prelude.{◌≡◌, ◌⊎◌, ℕ, ◌==◌, Bool, IsTrue, List, [], ◌∷◌}
+use Rattle.std.specs.Prelude.{◌≡◌, ◌⊎◌, ℕ, ◌==◌, ◌≤◌, Bool, IsTrue, List, [], ◌∷◌, length}
 use Rattle.std.specs.List.{list_any}
 use Rattle.keyframe_model.specs.Models.{Spec, property_of, same_property}
 use Rattle.tree_commit.specs.declared.runs.mark.Mark.{Mark}
-use Rattle.tree_commit.specs.Trees.{TreeLists, has_group, origin_of}
+use Rattle.tree_commit.specs.Trees.{TreeLists, has_group, has_model, origin_of}
 use Rattle.tree_commit.specs.Tables.{has_timeline}
 use Rattle.tree_commit.specs.Marks.{model_of, starts_in}
 
@@ -27,6 +27,21 @@ pub record AgreeAsGroup (one other : Spec) : Type 0 where
 -- the model started, finished or was aborted
 abbrev pub has_mark : List Mark → ℕ → Bool
 has_mark marks id = list_any (λ mark. id == model_of mark) marks
+
+-- ---- how many models there are
+
+-- the compositor knows the model: it has a mark, or is in the active or in the pending tree
+abbrev pub IsKnown : TreeLists → TreeLists → List Mark → ℕ → Type 0
+IsKnown active pending marks id =
+    IsTrue (has_mark marks id) ⊎ (IsTrue (has_model active id) ⊎ IsTrue (has_model pending id))
+
+-- The models that it knows are together at most this many: a list of such models, each another, has no more entries.
+abbrev pub KnowsAtMost : ℕ → TreeLists → TreeLists → List Mark → Type 0
+KnowsAtMost most active pending marks =
+    (ids : List ℕ) → AreDistinct ids → ((id : ℕ) → IsAmong id ids → IsKnown active pending marks id)
+    → length ids ≤ most
+
+-- ---- the pending tree after the active one
 
 -- The pending tree goes on from the active one and from the marks so far.
 -- A model of both is one. A model of the pending tree that has a mark is in the active one; so is one whose group has a

@@ -6,8 +6,8 @@ use Rattle.std.proofs.lemmas.Bool.{eqb-true, false≢true}
 use Rattle.keyframe_model.specs.Models.{Spec}
 use Rattle.tree_commit.specs.declared.runs.mark.Mark.{Mark}
 use Rattle.tree_commit.specs.Trees.{Committed, TreeLists, empty_commit, empty_tree, has_model}
-use Rattle.tree_commit.specs.Follows.{AgreeAsGroup, AreDistinct, Follows, IsAmong, has_mark}
-use Rattle.anim_host.specs.Hosting.{HasRoomFor, Hosting, IsKnown}
+use Rattle.tree_commit.specs.Follows.{AgreeAsGroup, AreDistinct, Follows, IsAmong, IsKnown, has_mark}
+use Rattle.anim_host.specs.Hosting.{HasRoomFor, Hosting}
 
 only : (models : List Spec) (one other : Spec) → length models ≤ 1 → IsAmong one models → IsAmong other models → one ≡ other
 only [] one other few a b = absurd a
@@ -46,7 +46,7 @@ one-id (model ∷ []) one other few a b = eqb-true one model.id (left (one == mo
 one-id (model ∷ more ∷ models) one other few a b = absurd (omega arith)
 
 known-there : (host : Hosting) (commit : Committed) (id : ℕ) → host.active ≡ empty_commit → host.marks ≡ []
-    → IsKnown host commit id → has_model commit.tree id ≡ true
+    → IsKnown host.active.tree commit.tree host.marks id → has_model commit.tree id ≡ true
 known-there host commit id active marks (inl marked) =
     absurd (false≢true (subst (λ (m : List Mark). IsTrue (has_mark m id)) marks marked))
 known-there host commit id active marks (inr (inl there)) =
