@@ -1,0 +1,124 @@
+use super::*;
+use anim_names::{AnimEvent, ElementId, GroupId, Lane, ModelId};
+use std::alloc::Global;
+use std::test::Fail;
+use transform_ops::{TransformList, TransformOp};
+use tree_commit::{Frame, FrameRow};
+use value_blend::Opacity;
+
+fn is_shared<T: Send + Sync>() {}
+
+#[test]
+fn reports_are_shared_between_threads() {
+    is_shared::<Report>();
+}
+
+// An element that shows an operation of each kind.
+fn moved_row(alloc: Global) -> Result<FrameRow, Fail> {
+    let operations = [
+        TransformOp::Translate { x: 1, y: -2, z: 3 },
+        TransformOp::Scale {
+            x: 1_000_000,
+            y: 0,
+            z: -4,
+        },
+        TransformOp::Rotate {
+            x: 0,
+            y: 0,
+            z: 1,
+            angle: -90_000,
+        },
+        TransformOp::Skew { x: 5, y: -6 },
+    ];
+    Ok(FrameRow {
+        element: ElementId(1),
+        opacity: Opacity::new(250_000).ok_or("no opacity")?,
+        transform: TransformList::new(alloc, &operations)?,
+    })
+}
+
+fn still_row(alloc: Global) -> Result<FrameRow, Fail> {
+    Ok(FrameRow {
+        element: ElementId(u32::MAX),
+        opacity: Opacity::new(1_000_000).ok_or("no opacity")?,
+        transform: TransformList::new(alloc, &[])?,
+    })
+}
+
+// A frame of no element, and a frame of two.
+fn two_frames(alloc: Global) -> Result<Vec<Frame>, Fail> {
+    let rows = vec![in alloc; moved_row(alloc)?, still_row(alloc)?]?;
+    Ok(vec![in alloc;
+        Frame::from_rows(0, 0, Vec::new(alloc)),
+        Frame::from_rows(16_667, 2, rows),
+    ]?)
+}
+
+// One event of each kind.
+fn three_events(alloc: Global) -> Result<Vec<AnimEvent>, Fail> {
+    Ok(vec![in alloc;
+        AnimEvent::Started {
+            model: ModelId(7),
+            group: GroupId(8),
+            at: 16_667,
+            start: -5000,
+        },
+        AnimEvent::Finished {
+            model: ModelId(9),
+            at: 33_334,
+        },
+        AnimEvent::Aborted {
+            model: ModelId(10),
+            commit: 256,
+        },
+    ]?)
+}
+
+fn report_of_all_kinds(alloc: Global) -> Result<Report, Fail> {
+    let word = vec![in alloc; Lane::Main, Lane::Compositor, Lane::Compositor]?;
+    let (frames, events) = (two_frames(alloc)?, three_events(alloc)?);
+    Ok(Report::new(word, frames, events, vec![in alloc; 0, 3]?))
+}
+
+const ALL_KINDS: &str = "report 1
+word MCC
+frame 0 commit 0
+frame 16667 commit 2
+element 1 250000 translate:1:-2:3 scale:1000000:0:-4 rotate:0:0:1:-90000 skew:5:-6
+element 4294967295 1000000 none
+started 7 group 8 at 16667 start -5000
+finished 9 at 33334
+aborted 10 commit 256
+heard 0
+heard 3
+end
+";
+
+#[test]
+fn a_line_of_each_kind_is_printed(rt: HostRuntime) -> Result<(), Fail> {
+    let report = report_of_all_kinds(rt.alloc())?;
+    let text = print_report(rt.alloc(), &report)?;
+    assert!(rt; text.as_slice() == ALL_KINDS.as_bytes());
+    Ok(())
+}
+
+#[test]
+fn the_report_of_no_step_has_28_bytes(rt: HostRuntime) -> Result<(), Fail> {
+    let alloc = rt.alloc();
+    let heard = vec![in alloc; 0]?;
+    let report = Report::new(Vec::new(alloc), Vec::new(alloc), Vec::new(alloc), heard);
+    let text = print_report(alloc, &report)?;
+    assert!(rt; text.len() == 28);
+    assert!(rt; text.as_slice() == b"report 1\nword -\nheard 0\nend\n".as_slice());
+    Ok(())
+}
+
+#[test]
+fn a_report_keeps_its_lists(rt: HostRuntime) -> Result<(), Fail> {
+    let report = report_of_all_kinds(rt.alloc())?;
+    assert!(rt; report.word() == [Lane::Main, Lane::Compositor, Lane::Compositor].as_slice());
+    assert!(rt; report.frames().len() == 2);
+    assert!(rt; report.events().len() == 3);
+    assert!(rt; report.heard() == [0, 3].as_slice());
+    Ok(())
+}
