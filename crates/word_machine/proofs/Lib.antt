@@ -1,3 +1,8 @@
-pub mod RunLemmas
-pub mod TextLemmas
-pub mod TickLemmas
+pub mod CompositorTurns
+pub mod Keeping
+pub mod Letters
+pub mod MainTurns
+pub mod Moments
+pub mod Placing
+pub mod Right
+pub mod UnderWay

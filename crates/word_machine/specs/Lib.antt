@@ -1,2 +1,4 @@
-pub mod Shortcuts
-pub mod Texts
+pub mod Courses
+pub mod Laws
+pub mod Moments
+pub mod Turns

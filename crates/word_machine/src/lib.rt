@@ -1,16 +1,11 @@
-//! Replays a script in the order of its word, and prints what it reports.
+//! Replays a script: both lanes' steps, one after the other, in the order of its word.
 //!
-//! [`replay`] gives the report that the definitions of runs give a script for its word, and [`print_report`] the
-//! bytes of a report. Both answer nothing else, unless memory runs out.
+//! To the layer above it promises that the report is the one that the definitions of runs give, and that the laws of
+//! runs are true of it. It knows each lane by the calls of its steps alone, whichever types have them. Its definitions of
+//! a run with its journal serve a run in threads too.
 #![tactic(auto)]
 
-pub mod replays;
-pub mod report;
-pub mod texts;
+mod replays;
+mod turns;
 
 pub use replays::replay;
-pub use report::Report;
-pub use texts::print_report;
-
-#[cfg(test)]
-mod tests;

@@ -1,7 +1,0 @@
-use Rattle.std.proofs.Common.{◌≡◌, ◌++◌, take, string_bytes}
-use Rattle.std.specs.List.{flat_map}
-use Rattle.word_machine.specs.Texts.{event_text}
-use Rattle.word_machine.proofs.texts.print_events.Given as goal
-
-abbrev pub invariant-loop-event : goal.invariant-loop-event
-invariant-loop-event l = string_bytes l.out ≡ string_bytes l.fn.out ++ flat_map event_text (take l.event-index l.events)

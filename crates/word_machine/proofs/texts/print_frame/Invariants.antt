@@ -1,7 +1,0 @@
-use Rattle.std.proofs.Common.{◌≡◌, ◌++◌, take, string_bytes}
-use Rattle.std.specs.List.{flat_map}
-use Rattle.word_machine.specs.Texts.{row_text}
-use Rattle.word_machine.proofs.texts.print_frame.Given as goal
-
-abbrev pub invariant-loop-i : goal.invariant-loop-i
-invariant-loop-i l = string_bytes l.out ≡ string_bytes l.initial.out ++ flat_map row_text (take l.i l.frame.rows)

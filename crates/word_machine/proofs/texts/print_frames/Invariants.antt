@@ -1,7 +1,0 @@
-use Rattle.std.proofs.Common.{◌≡◌, ◌++◌, take, string_bytes}
-use Rattle.std.specs.List.{flat_map}
-use Rattle.word_machine.specs.Texts.{frame_text}
-use Rattle.word_machine.proofs.texts.print_frames.Given as goal
-
-abbrev pub invariant-loop-frame : goal.invariant-loop-frame
-invariant-loop-frame l = string_bytes l.out ≡ string_bytes l.fn.out ++ flat_map frame_text (take l.frame-index l.frames)
