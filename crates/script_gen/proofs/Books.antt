@@ -1,17 +1,16 @@
 -- Steps of main that are allowed, and what the book says after them.
-use Rattle.std.proofs.Common.{◌≡◌, ℕ, zero, suc, ◌+◌, ◌-◌, ◌*◌, ◌<◌, ◌≤◌, Bool, true, false, ◌&&◌, eqb, ltb, List, [], ◌∷◌, ◌++◌, length, Option, Some, None, refl, ap, sym, subst, ◌∙◌, arith}
-use Rattle.std.specs.Prelude.{◌%◌, ◌==◌, fold, is_none, if◌then◌else◌, find}
+use Rattle.std.proofs.Common.{◌≡◌, ℕ, zero, suc, ◌+◌, ◌-◌, ◌*◌, ◌<◌, ◌≤◌, Bool, true, false, eqb, List, [], ◌∷◌, ◌++◌, length, None, refl, ap, subst, ◌∙◌, arith}
+use Rattle.std.specs.Prelude.{◌%◌, ◌==◌, fold, is_none, if◌then◌else◌}
 use Rattle.std.specs.List.{flat_map, range_with_len}
 use Rattle.std.proofs.lemmas.Bool.{and_parts, and_from, lt-ltb, eq-eqb, ne_eqb}
 use Rattle.std.proofs.lemmas.List.FromFn.{length-range_with_len}
 use Rattle.anim_names.specs.declared.limit.TheConstants.{MOST_COMMITS}
-use Rattle.keyframe_model.specs.Models.{Spec}
-use Rattle.tree_commit.specs.Edits.{Book, GroupParts, Change, AddElement, RemoveElement, AddTimeline, AddModel, RemoveModel, new_book, is_in, parts_of, edit_refusal, book_after, book_after_commit, new_parts, with_member}
-use Rattle.tree_commit.specs.Scripts.{StepOfMain, EditStep, CommitStep, DrainStep, book_after_step, book_of, is_allowed, are_allowed}
+use Rattle.tree_commit.specs.Edits.{Book, Change, AddElement, RemoveElement, AddTimeline, AddModel, RemoveModel, new_book, is_in, parts_of, edit_refusal, book_after, book_after_commit, new_parts, with_member}
+use Rattle.tree_commit.specs.Scripts.{StepOfMain, EditStep, CommitStep, DrainStep, book_after_step, is_allowed, are_allowed}
 use Rattle.script_gen.specs.declared.TheConstants.{MOST_GENERATED}
 use Rattle.script_gen.specs.Generated.{first_look, opacity_model, transform_model, where_divides, commit_and_drain, adding_steps, dropping_steps, main_steps}
 use Rattle.script_gen.proofs.Numbers.{in_range, not_in_range, next_id}
-use Rattle.script_gen.proofs.Edits.{IsNew, element_taken, removal_taken, model_removal_taken, first_taken, further_taken, with_member-other, with_member-new, is_in-without}
+use Rattle.script_gen.proofs.Edits.{element_taken, removal_taken, model_removal_taken, first_taken, further_taken, with_member-other, with_member-new, is_in-without}
 
 -- ---- steps that are allowed, and lead to a book of which something is so
 
@@ -50,7 +49,7 @@ each P f (suc n) k book step so =
     let e : k + 1 + n ≡ k + suc n = omega arith in
     both (P (k + 1)) (P (k + suc n)) book (f (k + 1)) (flat_map f (range_with_len (k + 1 + 1) n)) (step k book (omega arith) (omega arith) so)
     (λ b next. subst (λ (m : ℕ). Lead (P m) b (flat_map f (range_with_len (k + 1 + 1) n))) e
-        (each P f n (k + 1) b (λ j it low high. step j it (omega arith) (omega arith)) next))
+    (each P f n (k + 1) b (λ j it low high. step j it (omega arith) (omega arith)) next))
 
 -- a commit and a drain
 pub committed : (P : Book → Type 0) (book : Book) → book.commits < MOST_COMMITS → P (book_after_commit book) → Lead P book commit_and_drain
@@ -218,7 +217,7 @@ all_added n few =
     let zero_more : 0 + n ≡ n = omega arith in
     an_edit (Added n) new_book (AddTimeline 1 0) (flat_map adding_steps (range_with_len 1 n)) refl
     (subst (λ (m : ℕ). Lead (Added m) (book_after new_book (AddTimeline 1 0)) (flat_map adding_steps (range_with_len 1 n))) zero_more
-        (each Added adding_steps n 0 (book_after new_book (AddTimeline 1 0)) (λ j b low high so. adding j b (omega arith) so) first_book))
+    (each Added adding_steps n 0 (book_after new_book (AddTimeline 1 0)) (λ j b low high so. adding j b (omega arith) so) first_book))
 
 all_dropped : (n : ℕ) (book : Book) → Kept n 0 book → Lead (Kept n n) book (flat_map dropping_steps (range_with_len 1 n))
 all_dropped n book so =
@@ -239,8 +238,8 @@ unfolding main_steps
 main_leads n few =
     both (Kept n n) (AddedSoMany n) new_book _ commit_and_drain
     (both (Kept n 0) (Kept n n) new_book _ (flat_map dropping_steps (range_with_len 1 n))
-        (both (Added n) (Kept n 0) new_book (EditStep (AddTimeline 1 0) ∷ flat_map adding_steps (range_with_len 1 n)) commit_and_drain
-            (all_added n few)
-            (λ b so. let h = so.commits in committed (Kept n 0) b (omega arith) (kept_after_commit n b so)))
-        (λ b so. all_dropped n b so))
+    (both (Added n) (Kept n 0) new_book (EditStep (AddTimeline 1 0) ∷ flat_map adding_steps (range_with_len 1 n)) commit_and_drain
+    (all_added n few)
+    (λ b so. let h = so.commits in committed (Kept n 0) b (omega arith) (kept_after_commit n b so)))
+    (λ b so. all_dropped n b so))
     (λ b so. let h = so.commits in committed (AddedSoMany n) b (omega arith) so.elements_added)

@@ -1,9 +1,8 @@
 -- When an edit is not refused, and what is found in the groups after one.
-use Rattle.std.proofs.Common.{◌≡◌, ℕ, ◌+◌, ◌<◌, ◌≤◌, Bool, true, false, ◌||◌, cond, eqb, leb, ltb, List, [], ◌∷◌, ◌++◌, length, Option, Some, None, refl, ap, sym, ◌∙◌, arith}
+use Rattle.std.proofs.Common.{◌≡◌, ℕ, ◌<◌, ◌≤◌, true, false, ◌||◌, cond, eqb, leb, ltb, List, [], ◌∷◌, length, Some, None, refl, ap, sym, ◌∙◌}
 use Rattle.std.specs.Prelude.{find, if◌then◌else◌}
-use Rattle.std.proofs.lemmas.Bool.{eqb-true, eqb-false, eq-eqb, ne_eqb, lt-leb, le-ltb}
+use Rattle.std.proofs.lemmas.Bool.{eqb-true, eq-eqb, lt-leb, le-ltb}
 use Rattle.anim_names.specs.declared.limit.TheConstants.{MOST_ELEMENTS, MOST_MODELS}
-use Rattle.anim_names.specs.declared.property.Property.{Property}
 use Rattle.keyframe_model.specs.Models.{Spec, property_of}
 use Rattle.tree_commit.specs.Trees.{Look}
 use Rattle.tree_commit.specs.Edits.{Book, GroupParts, AddElement, RemoveElement, AddModel, RemoveModel, is_in, without, is_mixed, parts_of, edit_refusal, model_refusal, new_parts, with_property, with_member}

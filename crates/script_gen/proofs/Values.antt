@@ -1,5 +1,5 @@
 -- What a number gives is of values that may be.
-use Rattle.std.proofs.Common.{◌≡◌, ℕ, ◌+◌, ◌*◌, ◌<◌, ◌≤◌, Bool, true, false, ltb, leb, List, [], ◌∷◌, ◌++◌, Option, Some, None, refl, ap, length, arith}
+use Rattle.std.proofs.Common.{◌≡◌, ℕ, ◌+◌, ◌*◌, ◌≤◌, Bool, true, false, ltb, leb, [], ◌∷◌, ◌++◌, None, refl, length, arith}
 use Rattle.std.specs.Prelude.{◌%◌, ◌==◌, if◌then◌else◌}
 use Rattle.std.specs.List.{AllByRecursion}
 use Rattle.std.proofs.lemmas.Bool.{lt-ltb, le-leb}
@@ -43,7 +43,7 @@ fading_may_be i few = record {
   taken = fading_taken i;
   each =
       let keys : AllByRecursion (IsKey IsOpacity) (fading i).keys =
-          (record { time = omega arith; easing = tt; value = omega arith }, (record { time = omega arith; easing = tt; value = omega arith }, tt)) in
+      (record { time = omega arith; easing = tt; value = omega arith }, (record { time = omega arith; easing = tt; value = omega arith }, tt)) in
       All-from_recursion (IsKey IsOpacity) (fading i).keys keys;
   easing = easing_may_be _;
 }
@@ -55,9 +55,10 @@ pub sliding_may_be : (i : ℕ) → i ≤ MOST_GENERATED → IsCurve IsList (slid
 sliding_may_be i few = record {
   taken = refl;
   each =
-      let keys : AllByRecursion (IsKey IsList) (sliding i).keys =
-          (record { time = omega arith; easing = refl; value = translation_may_be 0 (omega arith) },
-          (record { time = omega arith; easing = tt; value = translation_may_be (1000 * i) (omega arith) }, tt)) in
+      let keys : AllByRecursion (IsKey IsList) (sliding i).keys = (
+        record { time = omega arith; easing = refl; value = translation_may_be 0 (omega arith) },
+        (record { time = omega arith; easing = tt; value = translation_may_be (1000 * i) (omega arith) }, tt),
+      ) in
       All-from_recursion (IsKey IsList) (sliding i).keys keys;
   easing = tt;
 }
@@ -98,9 +99,10 @@ maybe_commit false = tt
 
 pub adding_may_be : (i : ℕ) → i ≤ MOST_GENERATED → AllByRecursion IsStep (adding_steps i)
 unfolding adding_steps
-adding_may_be i few =
-    ((omega arith, record { opacity = omega arith; transform = translation_may_be 0 (omega arith) }),
-    (opacity_model_may_be i few, (transform_model_may_be i few, maybe_commit _)))
+adding_may_be i few = (
+  (omega arith, record { opacity = omega arith; transform = translation_may_be 0 (omega arith) }),
+  (opacity_model_may_be i few, (transform_model_may_be i few, maybe_commit _)),
+)
 
 maybe_one : (divides : Bool) (step : StepOfMain) → IsStep step → AllByRecursion IsStep (if divides then step ∷ [] else [])
 maybe_one true step so = (so, tt)

@@ -1,14 +1,14 @@
 -- A script that is made from a number is well formed.
-use Rattle.std.proofs.Common.{◌≡◌, ℕ, ◌+◌, ◌*◌, ◌<◌, ◌≤◌, Bool, true, false, List, [], ◌∷◌, ◌++◌, length, length-append, refl, ap, sym, ◌∙◌, arith}
+use Rattle.std.proofs.Common.{◌≡◌, ℕ, ◌*◌, ◌≤◌, ◌∷◌, ◌++◌, length, length-append, arith}
 use Rattle.std.specs.List.{AllByRecursion, flat_map, range_with_len}
 use Rattle.std.proofs.Math.Nat.{mul-le-mul_left}
 use Rattle.anim_names.specs.declared.limit.TheConstants.{MOST_STEPS, MOST_FRAMES}
 use Rattle.tree_commit.specs.Edits.{AddTimeline}
-use Rattle.tree_commit.specs.Scripts.{EditStep, IsStep, IsWellFormed, ticks_of, book_of}
+use Rattle.tree_commit.specs.Scripts.{EditStep, IsStep, IsWellFormed}
 use Rattle.script_gen.specs.declared.TheConstants.{MOST_GENERATED}
 use Rattle.script_gen.specs.Generated.{commit_and_drain, adding_steps, dropping_steps, ticking_steps, main_steps, compositor_steps, generated_script}
 use Rattle.script_gen.proofs.Numbers.{all-append, all-each, length-each}
-use Rattle.script_gen.proofs.Books.{AddedSoMany, main_leads}
+use Rattle.script_gen.proofs.Books.{main_leads}
 use Rattle.script_gen.proofs.Values.{adding_may_be, dropping_may_be, adding_is_short, dropping_is_short}
 use Rattle.script_gen.proofs.Lanes.{tick_count, ticks_in_order, ticks_in_time, tick_is_short, rounds_are_word}
 
@@ -20,11 +20,11 @@ main_may_be n few =
     all-append IsStep (EditStep (AddTimeline 1 0) ∷ flat_map adding_steps (range_with_len 1 n) ++ commit_and_drain ++ flat_map dropping_steps (range_with_len 1 n))
     commit_and_drain
     (all-append IsStep (EditStep (AddTimeline 1 0) ∷ flat_map adding_steps (range_with_len 1 n) ++ commit_and_drain)
-        (flat_map dropping_steps (range_with_len 1 n))
-        (all-append IsStep (EditStep (AddTimeline 1 0) ∷ flat_map adding_steps (range_with_len 1 n)) commit_and_drain
-            ((omega arith, omega arith), all-each IsStep adding_steps n 1 (λ i low high. adding_may_be i (omega arith)))
-            (tt, (tt, tt)))
-        (all-each IsStep dropping_steps n 1 (λ i low high. dropping_may_be i (omega arith))))
+    (flat_map dropping_steps (range_with_len 1 n))
+    (all-append IsStep (EditStep (AddTimeline 1 0) ∷ flat_map adding_steps (range_with_len 1 n)) commit_and_drain
+    ((omega arith, omega arith), all-each IsStep adding_steps n 1 (λ i low high. adding_may_be i (omega arith)))
+    (tt, (tt, tt)))
+    (all-each IsStep dropping_steps n 1 (λ i low high. dropping_may_be i (omega arith))))
     (tt, (tt, tt))
 
 main_is_short : (n : ℕ) → n ≤ MOST_GENERATED → length (main_steps n) ≤ MOST_STEPS

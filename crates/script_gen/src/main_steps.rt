@@ -134,11 +134,7 @@ fn first_base(alloc: Global) -> Result<Base, AllocError>
     })
 }
 
-fn push_model(
-    alloc: Global,
-    steps: &mut Vec<MainStep>,
-    model: ModelSpec,
-) -> Result<(), AllocError>
+fn push_model(alloc: Global, steps: &mut Vec<MainStep>, model: ModelSpec) -> Result<(), AllocError>
     ensures { OnOk result (map step_of steps.new.items
         ≡ map step_of steps.old.items ++ EditStep (AddModel model) ∷ []) }
 {

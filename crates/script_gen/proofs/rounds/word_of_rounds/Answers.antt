@@ -1,4 +1,4 @@
-use Rattle.std.proofs.Common.{◌≡◌, ◌+◌, ◌-◌, ◌++◌, ap, ◌∙◌, arith}
+use Rattle.std.proofs.Common.{◌+◌, ◌-◌, ◌++◌, ap, ◌∙◌, arith}
 use Rattle.script_gen.specs.Generated.{word_of_rounds}
 use Rattle.script_gen.proofs.Lanes.{round_made, rest_made}
 use Rattle.script_gen.proofs.rounds.word_of_rounds.Goals as goal
