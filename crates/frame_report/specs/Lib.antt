@@ -1,2 +1,3 @@
+pub mod Summaries
 pub mod Texts
 pub mod Worked

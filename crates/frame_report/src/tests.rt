@@ -113,6 +113,41 @@ fn the_report_of_no_step_has_28_bytes(rt: HostRuntime) -> Result<(), Fail> {
     Ok(())
 }
 
+fn started(model: u32) -> AnimEvent {
+    AnimEvent::Started {
+        model: ModelId(model),
+        group: GroupId(1),
+        at: 16_667,
+        start: 16_667,
+    }
+}
+
+// Four frames with three rows, and two starts of which main heard at the end.
+fn report_of_two_starts(alloc: Global) -> Result<Report, Fail> {
+    let mut frames = vec![in alloc; Frame::from_rows(0, 0, Vec::new(alloc))]?;
+    for i in 1..4 {
+        let rows = vec![in alloc; still_row(alloc)?]?;
+        frames.push(Frame::from_rows(i * 16_667, 1, rows))?;
+    }
+    let events = vec![in alloc; started(1), started(2)]?;
+    Ok(Report::new(Vec::new(alloc), frames, events, vec![in alloc; 0, 0, 2]?))
+}
+
+const TWO_STARTS: &str =
+    "load 1: frames 4 rows 3 started 2 finished 0 aborted 0 heard 2 bytes 309\n";
+
+const EVENT_OF_EACH_KIND: &str =
+    "load 7: frames 2 rows 2 started 1 finished 1 aborted 1 heard 3 bytes 0\n";
+
+#[test]
+fn a_summary_counts_what_a_report_has(rt: HostRuntime) -> Result<(), Fail> {
+    let text = print_summary(rt.alloc(), 1, &report_of_two_starts(rt.alloc())?, 309)?;
+    assert!(rt; text.as_slice() == TWO_STARTS.as_bytes());
+    let text = print_summary(rt.alloc(), 7, &report_of_all_kinds(rt.alloc())?, 0)?;
+    assert!(rt; text.as_slice() == EVENT_OF_EACH_KIND.as_bytes());
+    Ok(())
+}
+
 #[test]
 fn a_report_keeps_its_lists(rt: HostRuntime) -> Result<(), Fail> {
     let report = report_of_all_kinds(rt.alloc())?;
