@@ -1,79 +1,97 @@
 -- What an answer that was written whole means for the bytes that were read.
-use Rattle.std.proofs.Common.{◌≡◌, ℕ, ◌<◌, List, length, length-append, Option, Some, None, Result, Ok, Err, refl, ap, sym, subst, ◌∙◌, arith, inl, inr}
+use Rattle.std.proofs.Common.{◌≡◌, ℕ, ◌<◌, List, length, length-append, Option, Some, None, refl, ap, sym, subst, ◌∙◌, inl, inr, arith}
 use Rattle.std.specs.Prelude.{IfSome}
-use Rattle.std.proofs.lemmas.Bool.{lt-ltb, cases_lt}
+use Rattle.std.proofs.lemmas.Bool.{cases_lt}
 use Rattle.edge_io.specs.Edges.{Took}
-use Rattle.animation_script.specs.declared.refusal.Cause.{Cause}
-use Rattle.animation_script.specs.declared.refusal.Cause.TheVariants.{TooLong}
-use Rattle.animation_script.specs.Refusals.{Refusal}
-use Rattle.animation_script.specs.Animations.{Animation}
-use Rattle.animation_script.specs.Reading.{reading}
-use Rattle.animation_script.proofs.WholeRead.{was_written}
-use Rattle.animation_script.proofs.WholeWritten.{is_read}
+use Rattle.frame_script.specs.declared.cause.Cause.{Cause}
+use Rattle.frame_script.specs.declared.cause.Cause.TheVariants.{TooLong}
+use Rattle.frame_script.specs.Texts.{IsRefusedAt}
+use Rattle.frame_script.proofs.Leads.{not_spelled_and_refused, one_refusal}
 use Rattle.anim_top.specs.declared.status.Status.{Status}
 use Rattle.anim_top.specs.declared.status.Status.TheVariants.{Done, Refused}
-use Rattle.anim_top.specs.Answers.{status_for, text_for}
-use Rattle.anim_top.specs.Outside.{Reads, IsDone, IsRefused, Answers, most_bytes}
+use Rattle.anim_top.specs.Outside.{AnswersBytes, IsAnswerTo, IsRefused, IsReplayed, Reads, most_bytes}
 
-too_long : Result Animation Refusal
-too_long = Err (record { line = 0; cause = TooLong })
+-- ---- what was written
 
--- more are refused whatever they say
-reading_long : (bytes : List ℕ) → most_bytes < length bytes → reading bytes ≡ too_long
-unfolding reading too_long
-reading_long bytes long = rw (lt-ltb most_bytes (length bytes) long) refl
+module _ (left after taken took : Option (List ℕ)) (bytes : List ℕ) (status : Status) (text : List ℕ) (read : Reads left after bytes) where
+  pub is_replayed : Took taken took text → IsAnswerTo bytes status text → status ≡ Done → IsReplayed left after taken took
+  is_replayed written (inl answer) done = record {
+    bytes = bytes;
+    script = answer.script;
+    read = read.given;
+    whole = read.whole answer.spelled.short;
+    spelled = answer.spelled;
+    written = subst (λ (t : List ℕ). Took taken took t) answer.text_is written;
+  }
+  is_replayed written (inr answer) done = absurd (refused-not_done answer.number answer.cause (sym answer.status_is ∙ done))
+    where
+      refused-not_done : (number : ℕ) (cause : Cause) → Refused number cause ≡ Done → ⊥
+      refused-not_done number cause e = cc
+
+  pub is_refused : Took taken took text → IsAnswerTo bytes status text → (number : ℕ) (cause : Cause) → status ≡ Refused number cause → IsRefused left after taken took number cause
+  is_refused written (inl answer) number cause refused = absurd (done-not_refused (sym answer.status_is ∙ refused))
+    where
+      done-not_refused : Done ≡ Refused number cause → ⊥
+      done-not_refused e = cc
+  is_refused written (inr answer) number cause refused =
+      let same = refusal_is answer.number number answer.cause cause (sym answer.status_is ∙ refused) in
+      subst (λ (n : ℕ). IsRefused left after taken took n cause) same.0
+      (subst (λ (c : Cause). IsRefused left after taken took answer.number c) same.1
+      (record {
+        bytes = bytes;
+        read = read;
+        refused = answer.refused;
+        written = subst (λ (t : List ℕ). Took taken took t) answer.text_is written;
+      }))
+    where
+      refusal_is : (n m : ℕ) (c d : Cause) → Refused n c ≡ Refused m d → (n ≡ m) × (c ≡ d)
+      refusal_is n m c d e = (cc, cc)
+
+-- ---- the answer to all bytes of a source
 
 -- a source that tells its bytes told these, or both are too long
-reading_told : (all : List ℕ) (after : Option (List ℕ)) (bytes : List ℕ) → Reads (Some all) after bytes → reading all ≡ reading bytes
-reading_told all None bytes read = absurd read.given
-reading_told all (Some rest) bytes read =
+too_long_at : (bytes : List ℕ) → most_bytes < length bytes → IsRefusedAt bytes 0 TooLong
+too_long_at bytes long = inl (record { long = long; number_is = refl; cause_is = refl })
+
+answers_same : (bytes : List ℕ) (status : Status) (text : List ℕ) → IsAnswerTo bytes status text → AnswersBytes status bytes
+answers_same bytes status text (inl answer) = record {
+  spelled = λ script spelled. inl answer.status_is;
+  refused = λ number cause refused. absurd (not_spelled_and_refused bytes answer.script number cause answer.spelled refused);
+}
+answers_same bytes status text (inr answer) = record {
+  spelled = λ script spelled. absurd (not_spelled_and_refused bytes script answer.number answer.cause spelled answer.refused);
+  refused = λ number cause refused.
+      let same = one_refusal bytes answer.number number answer.cause cause answer.refused refused in
+      inl (answer.status_is ∙ ap (λ n. Refused n answer.cause) same.0 ∙ ap (Refused number) same.1);
+}
+
+-- Too many bytes are refused alike, whichever of them were read.
+answers_long : (all bytes : List ℕ) (status : Status) (text : List ℕ) → most_bytes < length all → most_bytes < length bytes → IsAnswerTo bytes status text → AnswersBytes status all
+answers_long all bytes status text long_all long (inl answer) =
+    absurd (not_spelled_and_refused bytes answer.script 0 TooLong answer.spelled (too_long_at bytes long))
+answers_long all bytes status text long_all long (inr answer) = record {
+  spelled = λ script spelled. absurd (not_spelled_and_refused all script 0 TooLong spelled (too_long_at all long_all));
+  refused = λ number cause refused.
+      let here = one_refusal bytes answer.number 0 answer.cause TooLong answer.refused (too_long_at bytes long) in
+      let there = one_refusal all 0 number TooLong cause (too_long_at all long_all) refused in
+      inl (answer.status_is ∙ ap (λ n. Refused n answer.cause) (here.0 ∙ there.0) ∙ ap (Refused number) (here.1 ∙ there.1));
+}
+
+pub is_answer : (left after : Option (List ℕ)) (bytes : List ℕ) (status : Status) (text : List ℕ) → Reads left after bytes → IsAnswerTo bytes status text → IfSome left (AnswersBytes status)
+is_answer None after bytes status text read answer = tt
+is_answer (Some all) None bytes status text read answer = absurd read.given
+is_answer (Some all) (Some rest) bytes status text read answer =
     elim (cases_lt most_bytes (length bytes)) [
       | inl long ↦
           let longer : most_bytes < length all = rw read.given (omega (arith, length-append bytes rest)) in
-          reading_long all longer ∙ sym (reading_long bytes long)
-      | inr short ↦ ap reading (read.whole short)
+          answers_long all bytes status text longer long answer
+      | inr short ↦ subst (λ (b : List ℕ). AnswersBytes status b) (sym (read.whole short)) (answers_same bytes status text answer)
     ]
 
-abbrev refusal_at : ℕ → Cause → Refusal
-refusal_at number cause = record { line = number; cause = cause }
+-- ---- equal bytes
 
-refusal_is : (refusal : Refusal) (number : ℕ) (cause : Cause) → refusal.line ≡ number → refusal.cause ≡ cause → refusal ≡ record { line = number; cause = cause }
-refusal_is refusal number cause p q = ap (λ (n : ℕ). refusal_at n refusal.cause) p ∙ ap (refusal_at number) q
+pub answer_of : (bytes items : List ℕ) (status : Status) (text : List ℕ) → bytes ≡ items → IsAnswerTo bytes status text → IsAnswerTo items status text
+answer_of bytes items status text is h = subst (λ (b : List ℕ). IsAnswerTo b status text) is h
 
-module _ (left after taken took : Option (List ℕ)) (bytes : List ℕ) (status : Status) (text : List ℕ) (read : Reads left after bytes) (written : Took taken took text) where
-  done_for : (r : Result Animation Refusal) → reading bytes ≡ r → status ≡ status_for r → text ≡ text_for r → status ≡ Done → IsDone left after taken took
-  done_for (Ok script) spelled status-is text-is done =
-      record {
-        bytes = bytes;
-        script = script;
-        read = read.given;
-        whole = read.whole (was_written bytes script spelled).short;
-        spelled = was_written bytes script spelled;
-        written = subst (λ (t : List ℕ). Took taken took t) text-is written;
-      }
-  done_for (Err refusal) refused status-is text-is done = absurd cc
-
-  pub is_done : status ≡ status_for (reading bytes) → text ≡ text_for (reading bytes) → status ≡ Done → IsDone left after taken took
-  is_done = done_for (reading bytes) refl
-
-  refused_for : (r : Result Animation Refusal) (number : ℕ) (cause : Cause) → reading bytes ≡ r → status ≡ status_for r → text ≡ text_for r → status ≡ Refused number cause → IsRefused left after taken took number cause
-  refused_for (Ok script) number cause spelled status-is text-is refused = absurd cc
-  refused_for (Err refusal) number cause read-is status-is text-is refused =
-      let same_line : refusal.line ≡ number = cc in
-      let same_cause : refusal.cause ≡ cause = cc in
-      subst (λ (r : Refusal). IsRefused left after taken took r.line r.cause) (refusal_is refusal number cause same_line same_cause)
-      (record { bytes = bytes; read = read; refused = read-is; written = subst (λ (t : List ℕ). Took taken took t) text-is written })
-
-  pub is_refused : (number : ℕ) (cause : Cause) → status ≡ status_for (reading bytes) → text ≡ text_for (reading bytes) → status ≡ Refused number cause → IsRefused left after taken took number cause
-  is_refused number cause = refused_for (reading bytes) number cause refl
-
--- the answer to the bytes read is the answer to all
-answers_all : (all : List ℕ) (status : Status) → status ≡ status_for (reading all) → Answers status all
-answers_all all status status-is = record {
-  spelled = λ script spelled. inl (status-is ∙ ap status_for (is_read all script spelled));
-  refused = λ number cause refused. inl (status-is ∙ ap status_for refused);
-}
-
-pub is_answer : (left after : Option (List ℕ)) (bytes : List ℕ) (status : Status) → Reads left after bytes → status ≡ status_for (reading bytes) → IfSome left (λ all. Answers status all)
-is_answer None after bytes status read status-is = tt
-is_answer (Some all) after bytes status read status-is = answers_all all status (status-is ∙ ap status_for (sym (reading_told all after bytes read)))
+pub took_of : (taken took : Option (List ℕ)) (text items : List ℕ) → text ≡ items → Took taken took text → Took taken took items
+took_of taken took text items is h = subst (λ (t : List ℕ). Took taken took t) is h

@@ -1,43 +1,70 @@
--- What the program answers: which commands it knows, and the status and the text for the bytes that it read.
-use Rattle.std.specs.Prelude.{◌≡◌, ℕ, Bool, false, List, [], ◌∷◌, ◌++◌, Result, Ok, Err, codes}
+-- What the program writes: the text of a report, of a refusal, of a script that is made and of a summary.
+use Rattle.std.specs.Prelude.{ℕ, List, [], ◌∷◌, ◌++◌, length, codes}
 use Rattle.std.specs.Fmt.{decimal}
-use Rattle.std.specs.Str.{bytes_eq}
-use Rattle.animation_script.specs.declared.refusal.Cause.{Cause}
-use Rattle.animation_script.specs.declared.refusal.Cause.TheVariants.{BadLine, TooLong}
-use Rattle.animation_script.specs.Refusals.{Refusal}
-use Rattle.animation_script.specs.Animations.{Animation, script_of, word_of}
-use Rattle.animation_script.specs.Reading.{reading}
+use Rattle.anim_names.specs.declared.limit.LimitName.{LimitName}
+use Rattle.anim_names.specs.declared.limit.LimitName.TheVariants as limit
+use Rattle.frame_report.specs.Summaries.{summary_text}
+use Rattle.frame_report.specs.Texts.{line, report_text}
+use Rattle.frame_script.specs.declared.cause.Cause.{Cause}
+use Rattle.frame_script.specs.declared.cause.Cause.TheVariants as cause
+use Rattle.frame_script.specs.Printing.{script_text}
+use Rattle.script_gen.specs.Generated.{generated_script}
+use Rattle.tree_commit.specs.declared.edits.refusal.EditRefusal.{EditRefusal}
+use Rattle.tree_commit.specs.declared.edits.refusal.EditRefusal.TheVariants as refusal
 use Rattle.tree_commit.specs.Runs.{report_of}
-use Rattle.word_machine.specs.Texts.{line, report_text}
-use Rattle.anim_top.specs.declared.status.Status.{Status}
-use Rattle.anim_top.specs.declared.status.Status.TheVariants.{Done, Refused}
+use Rattle.tree_commit.specs.Scripts.{ScriptLists}
 
--- The arguments are a command that the program knows: `replay` alone.
-abbrev pub is_command : List (List ℕ) → Bool
-is_command [] = false
-is_command (argument ∷ []) = bytes_eq argument (codes "replay")
-is_command (argument ∷ other ∷ more) = false
+-- ---- refusals
 
--- These bytes are refused at this line, for this cause.
-abbrev pub IsRefusedAt : List ℕ → ℕ → Cause → Type 0
-IsRefusedAt bytes number cause = reading bytes ≡ Err (record { line = number; cause = cause })
+abbrev pub limit_text : LimitName → List ℕ
+limit_text limit.Steps = codes "Limit Steps"
+limit_text limit.Commits = codes "Limit Commits"
+limit_text limit.Elements = codes "Limit Elements"
+limit_text limit.Models = codes "Limit Models"
+limit_text limit.Timelines = codes "Limit Timelines"
+limit_text limit.Frames = codes "Limit Frames"
 
+abbrev pub edit_text : EditRefusal → List ℕ
+edit_text refusal.ElementThere = codes "ElementThere"
+edit_text refusal.ElementNotThere = codes "ElementNotThere"
+edit_text refusal.ModelIdUsed = codes "ModelIdUsed"
+edit_text refusal.ModelUnknown = codes "ModelUnknown"
+edit_text refusal.TimelineThere = codes "TimelineThere"
+edit_text refusal.TimelineUnknown = codes "TimelineUnknown"
+edit_text refusal.GroupClosed = codes "GroupClosed"
+edit_text refusal.GroupMixed = codes "GroupMixed"
+edit_text (refusal.Limit name) = limit_text name
+
+-- The text of a cause is its name. That of a limit is the word and the name of the limit.
 abbrev pub cause_text : Cause → List ℕ
-cause_text BadLine = codes "BadLine"
-cause_text TooLong = codes "TooLong"
+cause_text (cause.Edit refusal) = edit_text refusal
+cause_text cause.BadHeader = codes "BadHeader"
+cause_text cause.BadLine = codes "BadLine"
+cause_text cause.BadNumber = codes "BadNumber"
+cause_text cause.BadCurve = codes "BadCurve"
+cause_text cause.BadTiming = codes "BadTiming"
+cause_text cause.BadEasing = codes "BadEasing"
+cause_text cause.TimeBack = codes "TimeBack"
+cause_text cause.BadWord = codes "BadWord"
+cause_text cause.MissingPart = codes "MissingPart"
+cause_text cause.TooLong = codes "TooLong"
 
 abbrev pub refusal_text : ℕ → Cause → List ℕ
-refusal_text number cause = line (codes "refused: line " ++ decimal number ++ codes ": " ++ cause_text cause)
+refusal_text number cause =
+    line ((codes "refused:") ∷ codes "line" ∷ (decimal number ++ codes ":") ∷ cause_text cause ∷ [])
+
+-- ---- reports, scripts and summaries
 
 -- the text of the report of a script, as its word orders its steps
-abbrev pub text_of_report : Animation → List ℕ
-text_of_report script = report_text (report_of (script_of script) (word_of script))
+abbrev pub text_of_report : ScriptLists → List ℕ
+text_of_report script = report_text (report_of script script.word)
 
--- the status and the text for what was read
-abbrev pub status_for : Result Animation Refusal → Status
-status_for (Ok script) = Done
-status_for (Err refusal) = Refused refusal.line refusal.cause
+-- what `gen` writes
+abbrev pub generated_text : ℕ → List ℕ
+generated_text n = script_text (generated_script n)
 
-abbrev pub text_for : Result Animation Refusal → List ℕ
-text_for (Ok script) = text_of_report script
-text_for (Err refusal) = refusal_text refusal.line refusal.cause
+-- what `load` writes: the summary of the report, and of how many bytes its text would have
+abbrev pub load_text : ℕ → List ℕ
+load_text n =
+    let script = generated_script n in
+    summary_text n (report_of script script.word) (length (text_of_report script))

@@ -1,13 +1,16 @@
 -- What a run of the program reads and writes.
-use Rattle.std.specs.Prelude.{◌≡◌, ℕ, ◌+◌, ◌^◌, ◌≤◌, List, length, take, Option, IfSome, ◌⊎◌}
+use Rattle.std.specs.Prelude.{◌≡◌, ℕ, ◌+◌, ◌^◌, ◌≤◌, ◌⊎◌, List, length, take, Option, IfSome}
 use Rattle.edge_io.specs.Edges.{Gave, Took}
-use Rattle.animation_script.specs.declared.refusal.Cause.{Cause}
-use Rattle.animation_script.specs.Animations.{Animation}
-use Rattle.animation_script.specs.Reading.{reading}
-use Rattle.animation_script.specs.Spelling.{Spells}
+use Rattle.frame_script.specs.declared.cause.Cause.{Cause}
+use Rattle.frame_script.specs.Texts.{IsRefusedAt, Spells}
+use Rattle.tree_commit.specs.Scripts.{ScriptLists}
+use Rattle.anim_top.specs.declared.arguments.Command.{Command}
+use Rattle.anim_top.specs.declared.arguments.Command.TheVariants.{Replay, Gen, Load}
 use Rattle.anim_top.specs.declared.status.Status.{Status}
 use Rattle.anim_top.specs.declared.status.Status.TheVariants.{Done, Refused, NoMemory}
-use Rattle.anim_top.specs.Answers.{IsRefusedAt, refusal_text, text_of_report, text_for}
+use Rattle.anim_top.specs.Answers.{generated_text, load_text, refusal_text, text_of_report}
+
+-- ---- reading
 
 -- the most bytes that a script may have
 abbrev pub most_bytes : ℕ
@@ -30,14 +33,28 @@ pub record Reads (left after : Option (List ℕ)) (bytes : List ℕ) : Type 0 wh
   pub few : length bytes ≤ most_read
   pub whole : length bytes ≤ most_bytes → IfSome left (λ all. all ≡ bytes)
 
+-- ---- writing
+
 -- The source's bytes were read to their end, they spell a script, and the sink took that script's report.
-pub record IsDone (left after taken took : Option (List ℕ)) : Type 0 where
+pub record IsReplayed (left after taken took : Option (List ℕ)) : Type 0 where
   pub bytes : List ℕ
-  pub script : Animation
+  pub script : ScriptLists
   pub read : Gave left after bytes
   pub whole : IfSome left (λ all. all ≡ bytes)
   pub spelled : Spells bytes script
   pub written : Took taken took (text_of_report script)
+
+-- The command was done: the sink took its output and nothing else.
+abbrev pub IsDone : Command → Option (List ℕ) → Option (List ℕ) → Option (List ℕ) → Option (List ℕ) → Type 0
+IsDone Replay left after taken took = IsReplayed left after taken took
+IsDone (Gen n) left after taken took = Took taken took (generated_text n)
+IsDone (Load n) left after taken took = Took taken took (load_text n)
+
+-- The command reads a script from the source, and does not make one.
+abbrev pub ReadsScript : Command → Type 0
+ReadsScript Replay = Unit {0}
+ReadsScript (Gen n) = ⊥
+ReadsScript (Load n) = ⊥
 
 -- The source's bytes, read to their end or to one more than a script may have, are refused so, and the sink took the
 -- refusal.
@@ -47,18 +64,54 @@ pub record IsRefused (left after taken took : Option (List ℕ)) (number : ℕ) 
   pub refused : IsRefusedAt bytes number cause
   pub written : Took taken took (refusal_text number cause)
 
+-- These bytes spell a script: the answer is Done, and the text is that script's report.
+pub record AnswersScript (bytes : List ℕ) (status : Status) (text : List ℕ) : Type 0 where
+  pub script : ScriptLists
+  pub spelled : Spells bytes script
+  pub status_is : status ≡ Done
+  pub text_is : text ≡ text_of_report script
+
+-- These bytes are refused: the answer is so too, and the text is the refusal.
+pub record AnswersRefusal (bytes : List ℕ) (status : Status) (text : List ℕ) : Type 0 where
+  pub number : ℕ
+  pub cause : Cause
+  pub refused : IsRefusedAt bytes number cause
+  pub status_is : status ≡ Refused number cause
+  pub text_is : text ≡ refusal_text number cause
+
+-- the status and the text for these bytes
+abbrev pub IsAnswerTo : List ℕ → Status → List ℕ → Type 0
+IsAnswerTo bytes status text = AnswersScript bytes status text ⊎ AnswersRefusal bytes status text
+
 -- The source's bytes were read, and the sink took no more than the front of their report or of their refusal.
-pub record IsCutShort (left after taken took : Option (List ℕ)) : Type 0 where
+pub record IsReplayCutShort (left after taken took : Option (List ℕ)) : Type 0 where
   pub bytes : List ℕ
+  pub status : Status
+  pub text : List ℕ
   pub count : ℕ
   pub read : Reads left after bytes
-  pub written : Took taken took (take count (text_for (reading bytes)))
+  pub answer : IsAnswerTo bytes status text
+  pub written : Took taken took (take count text)
+
+-- The sink took no more than the front of the command's output.
+abbrev pub IsCutShort : Command → Option (List ℕ) → Option (List ℕ) → Option (List ℕ) → Option (List ℕ) → Type 0
+IsCutShort Replay left after taken took = IsReplayCutShort left after taken took
+IsCutShort (Gen n) left after taken took = (count : ℕ) × Took taken took (take count (generated_text n))
+IsCutShort (Load n) left after taken took = (count : ℕ) × Took taken took (take count (load_text n))
+
+-- ---- answers
 
 -- or memory ran out
 abbrev pub OrNoMemory : Status → Status → Type 0
 OrNoMemory status wanted = (status ≡ wanted) ⊎ (status ≡ NoMemory)
 
 -- The answer to these bytes, unless memory ran out: Done where they spell a script, and else their refusal.
-pub record Answers (status : Status) (bytes : List ℕ) : Type 0 where
-  pub spelled : (script : Animation) → Spells bytes script → OrNoMemory status Done
+pub record AnswersBytes (status : Status) (bytes : List ℕ) : Type 0 where
+  pub spelled : (script : ScriptLists) → Spells bytes script → OrNoMemory status Done
   pub refused : (number : ℕ) (cause : Cause) → IsRefusedAt bytes number cause → OrNoMemory status (Refused number cause)
+
+-- The answer to a command over a source that has these bytes left, where it tells them, unless memory ran out.
+abbrev pub Answers : Command → Option (List ℕ) → Status → Type 0
+Answers Replay left status = IfSome left (AnswersBytes status)
+Answers (Gen n) left status = OrNoMemory status Done
+Answers (Load n) left status = OrNoMemory status Done

@@ -1,34 +1,36 @@
 //! The answer to a script's bytes.
 
 ghost use Rattle.std.specs.Prelude.{◌≡◌, IfOk, string_bytes};
-ghost use Rattle.animation_script.specs.Reading.{reading};
-ghost use Rattle.anim_top.specs.Answers.{refusal_text, cause_text, status_for, text_for};
+ghost use Rattle.anim_top.specs.Answers.{refusal_text};
+ghost use Rattle.anim_top.specs.Outside.{IsAnswerTo};
 
-use crate::Status;
-use animation_script::{Cause, ScriptFault, read_script};
-use easing_fixed::{EasingFunction, Evaluator};
+use crate::causes::cause_text;
+use crate::replaying::report_of;
+use crate::{Hooks, Status};
+use anim_delegate::VerdictFunction;
+use easing_fixed::EasingFunction;
+use frame_report::print_report;
+use frame_script::{Cause, ScriptFault, read_script};
 use std::alloc::{AllocError, Global};
-use word_machine::{print_report, replay};
 
 /// A status, and all that is written before the program ends with it. Writing the text is the caller's part.
 #[derive(Debug, Drop)]
-pub struct Answer {
-    pub status: Status,
-    pub text: Vec<u8>,
+pub(crate) struct Answer {
+    pub(crate) status: Status,
+    pub(crate) text: Vec<u8>,
 }
 
 /// The report of the script that the bytes spell, or their refusal.
-pub fn answer_to<E: EasingFunction>(
+pub(crate) fn answer_to<F: VerdictFunction, E: EasingFunction>(
     alloc: Global,
     bytes: &[u8],
-    evaluator: &Evaluator<E>,
+    hooks: &Hooks<F, E>,
 ) -> Result<Answer, AllocError>
-    ensures status { IfOk result (λ answer. answer.status ≡ status_for (reading bytes.now)) }
-    ensures text { IfOk result (λ answer. answer.text.items ≡ text_for (reading bytes.now)) }
+    ensures { IfOk result (λ answer. IsAnswerTo bytes.now answer.status answer.text.items) }
 {
     match read_script(alloc, bytes) {
         Ok(script) => {
-            let report = replay(alloc, &script, evaluator)?;
+            let report = report_of(alloc, &script, hooks)?;
             let text = print_report(alloc, &report)?;
             let status = Status::Done;
             Ok(Answer { status, text })
@@ -49,13 +51,4 @@ fn refusal_text(alloc: Global, line: u32, cause: Cause) -> Result<Vec<u8>, Alloc
     text.push_str(cause_text(cause))?;
     text.push('\n')?;
     Ok(text.into_bytes())
-}
-
-fn cause_text(cause: Cause) -> &'static str
-    ensures { result.now ≡ cause_text cause }
-{
-    match cause {
-        Cause::BadLine => "BadLine",
-        Cause::TooLong => "TooLong",
-    }
 }

@@ -1,23 +1,25 @@
 //! The calls that the program makes.
 
-ghost use Rattle.std.specs.Prelude.{◌≡◌, ◌↔◌, ◌≤◌, ℕ, true, false, map, Some, IfSome, string_bytes};
-ghost use Rattle.edge_io.specs.Edges.{HasRisen};
-ghost use Rattle.animation_script.specs.declared.refusal.Cause.{Cause};
-ghost use Rattle.anim_top.specs.Answers.{is_command};
-ghost use Rattle.anim_top.specs.Outside.{IsDone, IsRefused, IsCutShort, HasGiven, Answers};
+ghost use Rattle.std.specs.Prelude.{◌≡◌, ◌≢◌, ◌↔◌, ◌⊎◌, ◌≤◌, ℕ, None, map, take, IfSome, IsSomeAnd, IsOkAnd, string_bytes};
+ghost use Rattle.edge_io.specs.Edges.{HasRisen, Took};
+ghost use Rattle.frame_script.specs.declared.cause.Cause.{Cause};
+ghost use Rattle.anim_top.specs.Commands.{command_of};
+ghost use Rattle.anim_top.specs.Outside.{Answers, AnswersBytes, HasGiven, IsCutShort, IsDone, IsRefused, IsReplayCutShort, IsReplayed, ReadsScript};
 
 use crate::answer::answer_to;
+use crate::arguments::{Command, command_of};
+use crate::generating::{generated_text, load_text};
 use crate::intake::{ReadError, read_bytes};
 use crate::outlet::write_all;
 use crate::{Hooks, Status};
 use anim_delegate::VerdictFunction;
 use easing_fixed::EasingFunction;
 use edge_io::{Sink, Source};
-use std::alloc::Global;
+use std::alloc::{AllocError, Global};
 
 /// Does what the arguments ask for, as [`plain_command`] does. The number of the status is what the program ends with.
 ///
-/// The one command that there is asks nothing of `rt`.
+/// No command that there is asks anything of `rt`.
 pub fn command<R, S: Source, K: Sink, F: VerdictFunction, E: EasingFunction>(
     _rt: &R,
     alloc: Global,
@@ -27,27 +29,34 @@ pub fn command<R, S: Source, K: Sink, F: VerdictFunction, E: EasingFunction>(
     hooks: &Hooks<F, E>,
 ) -> Status
     // The arguments are no command, and then nothing is read or written.
-    ensures usage { (result ≡ Status.Usage) ↔ (is_command (map string_bytes arguments.now) ≡ false) }
+    ensures usage { (result ≡ Status.Usage) ↔ (command_of (map string_bytes arguments.now) ≡ None) }
     ensures untouched { result ≡ Status.Usage → (source.new ≡ source.old) × (sink.new ≡ sink.old) }
 
-    // The source was read to its end, its bytes spell a script, and the sink took the report and nothing else.
-    ensures done { result ≡ Status.Done → IsDone (S.left source.old) (S.left source.new) (K.taken sink.old) (K.taken sink.new) }
+    // A command that makes its script leaves the source as it is, and so meets no fault of it.
+    ensures unread { IsSomeAnd (command_of (map string_bytes arguments.now)) (λ c. ¬ ReadsScript c)
+        → (source.new ≡ source.old) × (result ≢ Status.ReadFault) }
 
-    // The bytes are refused at this line for this cause, and the sink took the refusal and nothing else.
+    // The command was done, and the sink took its output and nothing else. Of `replay` that is the report of the script
+    // that the source's bytes spell, which were read to their end.
+    ensures done { result ≡ Status.Done → IsSomeAnd (command_of (map string_bytes arguments.now)) (λ c.
+        IsDone c (S.left source.old) (S.left source.new) (K.taken sink.old) (K.taken sink.new)) }
+
+    // A script was read, the bytes are refused at this line for this cause, and the sink took the refusal and nothing else.
     ensures refused { (line : ℕ) (cause : Cause) → result ≡ Status.Refused line cause
-        → IsRefused (S.left source.old) (S.left source.new) (K.taken sink.old) (K.taken sink.new) line cause }
+        → IsSomeAnd (command_of (map string_bytes arguments.now)) ReadsScript
+        × IsRefused (S.left source.old) (S.left source.new) (K.taken sink.old) (K.taken sink.new) line cause }
 
     // A fault is a fault of the outside.
     ensures read_fault { result ≡ Status.ReadFault → HasRisen (S.faults source.old) (S.faults source.new)
         × HasGiven (S.left source.old) (S.left source.new) × (sink.new ≡ sink.old) }
     ensures write_fault { result ≡ Status.WriteFault → HasRisen (K.faults sink.old) (K.faults sink.new)
-        × IsCutShort (S.left source.old) (S.left source.new) (K.taken sink.old) (K.taken sink.new) }
+        × IsSomeAnd (command_of (map string_bytes arguments.now)) (λ c.
+        IsCutShort c (S.left source.old) (S.left source.new) (K.taken sink.old) (K.taken sink.new)) }
     ensures no_memory { result ≡ Status.NoMemory → HasGiven (S.left source.old) (S.left source.new) × (sink.new ≡ sink.old) }
 
-    // Where the outside has no fault, the answer is that of the bytes, unless memory ran out.
-    ensures complete { is_command (map string_bytes arguments.now) ≡ true
-        → ¬ HasRisen (S.faults source.old) (S.faults source.new) → ¬ HasRisen (K.faults sink.old) (K.faults sink.new)
-        → IfSome (S.left source.old) (λ bytes. Answers result bytes) }
+    // Where the outside has no fault, the answer is that of the command and of the bytes, unless memory ran out.
+    ensures complete { ¬ HasRisen (S.faults source.old) (S.faults source.new) → ¬ HasRisen (K.faults sink.old) (K.faults sink.new)
+        → IfSome (command_of (map string_bytes arguments.now)) (λ c. Answers c (S.left source.old) result) }
     ensures source_counts { S.faults source.old ≤ S.faults source.new }
     ensures sink_counts { K.faults sink.old ≤ K.faults sink.new }
 {
@@ -56,8 +65,9 @@ pub fn command<R, S: Source, K: Sink, F: VerdictFunction, E: EasingFunction>(
 
 /// Does what the arguments ask for, reading from the source and writing to the sink.
 ///
-/// The one command is `replay`: it reads a script and writes its report, or the refusal of the first line that is
-/// refused. It waits for nobody. The answer `NoMemory` may come at any time, with nothing written.
+/// `replay` reads a script and writes its report, or the refusal of the first line that is refused. `gen N` writes the
+/// script that is made from N, and `load N` replays that one and writes the summary of its report. It waits for nobody.
+/// The answer `NoMemory` may come at any time, with nothing written.
 pub fn plain_command<S: Source, K: Sink, F: VerdictFunction, E: EasingFunction>(
     alloc: Global,
     arguments: &[String],
@@ -66,39 +76,72 @@ pub fn plain_command<S: Source, K: Sink, F: VerdictFunction, E: EasingFunction>(
     hooks: &Hooks<F, E>,
 ) -> Status
     // The arguments are no command, and then nothing is read or written.
-    ensures usage { (result ≡ Status.Usage) ↔ (is_command (map string_bytes arguments.now) ≡ false) }
+    ensures usage { (result ≡ Status.Usage) ↔ (command_of (map string_bytes arguments.now) ≡ None) }
     ensures untouched { result ≡ Status.Usage → (source.new ≡ source.old) × (sink.new ≡ sink.old) }
 
-    // The source was read to its end, its bytes spell a script, and the sink took the report and nothing else.
-    ensures done { result ≡ Status.Done → IsDone (S.left source.old) (S.left source.new) (K.taken sink.old) (K.taken sink.new) }
+    // A command that makes its script leaves the source as it is, and so meets no fault of it.
+    ensures unread { IsSomeAnd (command_of (map string_bytes arguments.now)) (λ c. ¬ ReadsScript c)
+        → (source.new ≡ source.old) × (result ≢ Status.ReadFault) }
 
-    // The bytes are refused at this line for this cause, and the sink took the refusal and nothing else.
+    // The command was done, and the sink took its output and nothing else. Of `replay` that is the report of the script
+    // that the source's bytes spell, which were read to their end.
+    ensures done { result ≡ Status.Done → IsSomeAnd (command_of (map string_bytes arguments.now)) (λ c.
+        IsDone c (S.left source.old) (S.left source.new) (K.taken sink.old) (K.taken sink.new)) }
+
+    // A script was read, the bytes are refused at this line for this cause, and the sink took the refusal and nothing else.
     ensures refused { (line : ℕ) (cause : Cause) → result ≡ Status.Refused line cause
-        → IsRefused (S.left source.old) (S.left source.new) (K.taken sink.old) (K.taken sink.new) line cause }
+        → IsSomeAnd (command_of (map string_bytes arguments.now)) ReadsScript
+        × IsRefused (S.left source.old) (S.left source.new) (K.taken sink.old) (K.taken sink.new) line cause }
 
     // A fault is a fault of the outside.
     ensures read_fault { result ≡ Status.ReadFault → HasRisen (S.faults source.old) (S.faults source.new)
         × HasGiven (S.left source.old) (S.left source.new) × (sink.new ≡ sink.old) }
     ensures write_fault { result ≡ Status.WriteFault → HasRisen (K.faults sink.old) (K.faults sink.new)
-        × IsCutShort (S.left source.old) (S.left source.new) (K.taken sink.old) (K.taken sink.new) }
+        × IsSomeAnd (command_of (map string_bytes arguments.now)) (λ c.
+        IsCutShort c (S.left source.old) (S.left source.new) (K.taken sink.old) (K.taken sink.new)) }
     ensures no_memory { result ≡ Status.NoMemory → HasGiven (S.left source.old) (S.left source.new) × (sink.new ≡ sink.old) }
 
-    // Where the outside has no fault, the answer is that of the bytes, unless memory ran out.
-    ensures complete { is_command (map string_bytes arguments.now) ≡ true
-        → ¬ HasRisen (S.faults source.old) (S.faults source.new) → ¬ HasRisen (K.faults sink.old) (K.faults sink.new)
-        → IfSome (S.left source.old) (λ bytes. Answers result bytes) }
+    // Where the outside has no fault, the answer is that of the command and of the bytes, unless memory ran out.
+    ensures complete { ¬ HasRisen (S.faults source.old) (S.faults source.new) → ¬ HasRisen (K.faults sink.old) (K.faults sink.new)
+        → IfSome (command_of (map string_bytes arguments.now)) (λ c. Answers c (S.left source.old) result) }
     ensures source_counts { S.faults source.old ≤ S.faults source.new }
     ensures sink_counts { K.faults sink.old ≤ K.faults sink.new }
 {
-    if !is_replay(arguments) {
-        return Status::Usage;
+    match command_of(arguments) {
+        None => Status::Usage,
+        Some(Command::Replay) => replay_source(alloc, source, sink, hooks),
+        Some(Command::Gen(n)) => write_made(sink, generated_text(alloc, n)),
+        Some(Command::Load(n)) => write_made(sink, load_text(alloc, n, hooks)),
     }
+}
+
+// Reads a script from the source, and writes its report or its refusal to the sink.
+fn replay_source<S: Source, K: Sink, F: VerdictFunction, E: EasingFunction>(
+    alloc: Global,
+    source: &mut S,
+    sink: &mut K,
+    hooks: &Hooks<F, E>,
+) -> Status
+    ensures no_usage { result ≢ Status.Usage }
+    ensures done { result ≡ Status.Done → IsReplayed (S.left source.old) (S.left source.new) (K.taken sink.old) (K.taken sink.new) }
+    ensures refused { (line : ℕ) (cause : Cause) → result ≡ Status.Refused line cause
+        → IsRefused (S.left source.old) (S.left source.new) (K.taken sink.old) (K.taken sink.new) line cause }
+    ensures read_fault { result ≡ Status.ReadFault → HasRisen (S.faults source.old) (S.faults source.new)
+        × HasGiven (S.left source.old) (S.left source.new) × (sink.new ≡ sink.old) }
+    ensures write_fault { result ≡ Status.WriteFault → HasRisen (K.faults sink.old) (K.faults sink.new)
+        × IsReplayCutShort (S.left source.old) (S.left source.new) (K.taken sink.old) (K.taken sink.new) }
+    ensures no_memory { result ≡ Status.NoMemory → HasGiven (S.left source.old) (S.left source.new) × (sink.new ≡ sink.old) }
+    ensures complete { ¬ HasRisen (S.faults source.old) (S.faults source.new) → ¬ HasRisen (K.faults sink.old) (K.faults sink.new)
+        → IfSome (S.left source.old) (AnswersBytes result) }
+    ensures source_counts { S.faults source.old ≤ S.faults source.new }
+    ensures sink_counts { K.faults sink.old ≤ K.faults sink.new }
+{
     let bytes = match read_bytes(alloc, source) {
         Ok(bytes) => bytes,
         Err(ReadError::Fault) => return Status::ReadFault,
         Err(ReadError::NoMemory) => return Status::NoMemory,
     };
-    let Ok(answer) = answer_to(alloc, bytes.as_slice(), &hooks.evaluator) else {
+    let Ok(answer) = answer_to(alloc, bytes.as_slice(), hooks) else {
         return Status::NoMemory;
     };
     match write_all(sink, answer.text.as_slice()) {
@@ -107,12 +150,20 @@ pub fn plain_command<S: Source, K: Sink, F: VerdictFunction, E: EasingFunction>(
     }
 }
 
-/// Whether the arguments are `replay` alone.
-fn is_replay(arguments: &[String]) -> bool
-    ensures { result ≡ is_command (map string_bytes arguments.now) }
+// Writes a text that was made, where there was memory for it.
+fn write_made<K: Sink>(sink: &mut K, made: Result<Vec<u8>, AllocError>) -> Status
+    ensures answers { (result ≡ Status.Done) ⊎ ((result ≡ Status.WriteFault) ⊎ (result ≡ Status.NoMemory)) }
+    ensures done { result ≡ Status.Done → IsOkAnd made (λ text. Took (K.taken sink.old) (K.taken sink.new) text.items) }
+    ensures write_fault { result ≡ Status.WriteFault → HasRisen (K.faults sink.old) (K.faults sink.new)
+        × IsOkAnd made (λ text. (count : ℕ) × Took (K.taken sink.old) (K.taken sink.new) (take count text.items)) }
+    ensures no_memory { result ≡ Status.NoMemory → sink.new ≡ sink.old }
+    ensures sink_counts { K.faults sink.old ≤ K.faults sink.new }
 {
-    match arguments {
-        [argument] => argument.as_str() == "replay",
-        _ => false,
+    let Ok(text) = made else {
+        return Status::NoMemory;
+    };
+    match write_all(sink, text.as_slice()) {
+        Ok(()) => Status::Done,
+        Err(_) => Status::WriteFault,
     }
 }

@@ -4,8 +4,8 @@ ghost use Rattle.std.specs.Prelude.{◌≡◌, ◌+◌, ◌≤◌, ◌<◌, ◌+
 ghost use Rattle.edge_io.specs.Edges.{HasRisen, Gave};
 ghost use Rattle.anim_top.specs.Outside.{Reads, HasGiven};
 
-use animation_script::MOST_BYTES;
 use edge_io::{Failed, Source};
+use frame_script::MOST_BYTES;
 use std::alloc::{AllocError, Global};
 
 /// Why a source's bytes could not be read.

@@ -5,15 +5,17 @@
 #![tactic(auto)]
 
 mod answer;
+pub mod arguments;
+mod causes;
 pub mod commands;
+mod generating;
 pub mod hooks;
 mod intake;
 mod outlet;
+mod replaying;
 pub mod status;
 
+pub use arguments::Command;
 pub use commands::{command, plain_command};
 pub use hooks::Hooks;
 pub use status::Status;
-
-#[cfg(test)]
-mod tests;

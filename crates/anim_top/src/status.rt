@@ -1,4 +1,4 @@
-use animation_script::Cause;
+use frame_script::Cause;
 
 /// How the program ended: a value, and not an act. `main` ends the process with its number.
 ///

@@ -5,6 +5,7 @@ use Rattle.std.proofs.lemmas.Bool.{and_parts, leb-true}
 use Rattle.std.proofs.lemmas.List.{append-nil, length-append}
 use Rattle.anim_names.specs.declared.lane.Lane.{Lane}
 use Rattle.anim_names.specs.declared.lane.Lane.TheVariants.{Main, Compositor}
+use Rattle.anim_names.specs.declared.limit.TheConstants.{MOST_MODELS}
 use Rattle.anim_timeline.specs.declared.TheConstants.{LAST_TIME}
 use Rattle.keyframe_model.specs.Models.{Spec}
 use Rattle.micro_time.specs.declared.TheConstants.{LARGEST_LOCAL}
@@ -25,7 +26,7 @@ use Rattle.tree_commit.specs.Marks.{is_aborted, start_of}
 use Rattle.tree_commit.specs.Scripts.{StepOfMain, EditStep, CommitStep, DrainStep, ScriptLists, IsWellFormed, are_allowed, are_at_most, book_after_step, is_allowed, never_fall_from, ticks_of}
 use Rattle.tree_commit.specs.Runs.{Lanes, after_activation, after_drain, compositor_step, main_step, newest_commit, with_pending}
 use Rattle.word_machine.specs.Courses.{Course, course_after, course_of, opening}
-use Rattle.word_machine.specs.Moments.{IsUnderWay}
+use Rattle.word_machine.specs.Moments.{IsUnderWay, model_count}
 use Rattle.word_machine.proofs.CompositorTurns.{last_tick_after, takes}
 use Rattle.word_machine.proofs.Right.{course-append, lanes_of_course, next_compositor, next_main}
 
@@ -182,6 +183,10 @@ bounded script well word = subst (λ (lanes : Lanes). IsBounded script lanes) (s
   locals = local_times_are_small script well word;
   events = events_are_few script well word;
 }
+
+-- a script never adds more models than may be added
+pub few_models : (script : ScriptLists) → IsWellFormed script → model_count script ≤ MOST_MODELS
+few_models script well = (known_were_added script well []).limit
 
 -- the same after one more letter
 pub bounded-next : (script : ScriptLists) → IsWellFormed script → (word : List Lane) (letter : Lane) → IsBounded script (course_after (course_of script word) letter).lanes
