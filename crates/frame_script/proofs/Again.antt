@@ -1,31 +1,28 @@
 -- What is checked again at the last key of a model was decided before: it never refuses.
-use Rattle.std.proofs.Common.{◌≡◌, ℕ, ◌+◌, ◌<◌, ◌≤◌, Bool, true, false, cond, eqb, List, [], ◌∷◌, ◌++◌, Option, Some, None, Result, Ok, Err, refl, ap, sym, subst, ◌∙◌, arith}
-use Rattle.std.specs.Prelude.{option_map, is_none}
+use Rattle.std.proofs.Common.{◌≡◌, ℕ, Bool, true, false, cond, eqb, List, [], ◌∷◌, ◌++◌, Option, None, Ok, refl, ap, sym, ◌∙◌}
+use Rattle.std.specs.Prelude.{option_map}
 use Rattle.std.proofs.lemmas.Bool.{eqb-true}
 use Rattle.anim_names.specs.declared.limit.LimitName.TheVariants.{Steps}
 use Rattle.anim_names.specs.declared.property.Property.{Property}
-use Rattle.easing_fixed.specs.declared.easing.Easing.{Easing}
 use Rattle.value_blend.specs.Blends.{IsOpacity}
 use Rattle.transform_ops.specs.Lists.{IsList}
-use Rattle.curve_keys.specs.declared.key.Key.{Key}
-use Rattle.curve_keys.specs.Curves.{keyframes, curve_refusal}
+use Rattle.curve_keys.specs.Curves.{keyframes}
 use Rattle.keyframe_model.specs.Models.{PropertyCurve, OpacityCurve, TransformCurve, property_of_curve}
 use Rattle.tree_commit.specs.declared.edits.refusal.EditRefusal.TheVariants.{Limit}
 use Rattle.tree_commit.specs.Edits.{AddModel, edit_refusal, model_refusal}
 use Rattle.tree_commit.specs.Scripts.{StepOfMain, EditStep, ScriptLists, book_of}
-use Rattle.script_fields.specs.Fields.{◌>>=◌, fields}
+use Rattle.script_fields.specs.Fields.{fields}
 use Rattle.script_fields.proofs.Ranges.{bind_ok}
 use Rattle.frame_script.specs.declared.cause.Cause.{Cause}
-use Rattle.frame_script.specs.declared.cause.Cause.TheVariants.{Edit, BadCurve}
-use Rattle.frame_script.specs.declared.model_line.ModelNames.{ModelNames}
+use Rattle.frame_script.specs.declared.cause.Cause.TheVariants.{Edit}
 use Rattle.frame_script.specs.declared.model_line.ModelLine.{ModelLine}
 use Rattle.frame_script.specs.Causes.{demand, allow}
-use Rattle.frame_script.specs.States.{PropertyKeys, OpacityKeys, TransformKeys, InMain, InModel, ScriptState, at, beginning, has_room, step_refusal, main_with, with_main, step_made, names_refusal, model_allowed, keys_with, key_count, taken_curve, curve_through, model_with, model_through, model_made, after_key}
+use Rattle.frame_script.specs.States.{PropertyKeys, OpacityKeys, TransformKeys, InMain, InModel, ScriptState, at, beginning, has_room, main_with, with_main, step_made, names_refusal, model_allowed, keys_with, key_count, taken_curve, curve_through, model_with, model_through, model_made, after_key}
 use Rattle.frame_script.specs.Texts.{LeadTo}
 use Rattle.frame_script.proofs.Books.{allowed_is}
-use Rattle.frame_script.proofs.Ranges.{done, IsLine}
-use Rattle.frame_script.proofs.Lasting.{AreKeys, make_a_curve}
-use Rattle.frame_script.proofs.Sound.{AreKeysOf, IsDraft, IsSound, reached_is_sound, keys_with_fit}
+use Rattle.frame_script.proofs.Ranges.{IsLine}
+use Rattle.frame_script.proofs.Lasting.{make_a_curve}
+use Rattle.frame_script.proofs.Sound.{AreKeysOf, IsDraft, reached_is_sound, keys_with_fit}
 
 -- the curve is made, and it is one of the line's property
 record MakesCurve (line : ModelLine) (keys : PropertyKeys) : Type 0 where

@@ -1,14 +1,13 @@
 -- A timing that lasts as long as a curve, and the keys of a model so far.
-use Rattle.std.proofs.Common.{◌≡◌, ◌≢◌, ℕ, suc, ◌+◌, ◌<◌, ◌≤◌, Bool, true, false, cond, leb, ltb, eqb, ◌&&◌, not, List, [], ◌∷◌, ◌++◌, length, length-append, Option, Some, None, Result, Ok, Err, refl, ap, sym, subst, ◌∙◌, arith}
-use Rattle.std.proofs.lemmas.Bool.{leb-true, le-leb, le-ltb, ltb-true, eqb-true}
+use Rattle.std.proofs.Common.{◌≡◌, ℕ, ◌<◌, ◌≤◌, Bool, true, false, cond, ltb, ◌&&◌, not, List, [], ◌∷◌, ◌++◌, length, length-append, Option, Some, None, Ok, refl, subst, arith}
+use Rattle.std.proofs.lemmas.Bool.{le-leb, le-ltb}
 use Rattle.std.specs.List.{AllByRecursion}
 use Rattle.micro_time.specs.declared.TheConstants.{LONGEST_DURATION}
 use Rattle.micro_time.specs.declared.fault.TimingFault.{TimingFault}
-use Rattle.micro_time.specs.Timings.{TimingParts, IsTiming, is_duration, refusal}
+use Rattle.micro_time.specs.Timings.{TimingParts, IsTiming, is_duration}
 use Rattle.curve_keys.specs.declared.TheConstants.{FEWEST_KEYS, MOST_KEYS}
 use Rattle.curve_keys.specs.declared.key.Key.{Key}
 use Rattle.curve_keys.specs.Curves.{IsKey, is_rising, is_rising_from, begins_at_zero, last_time, curve_refusal}
-use Rattle.script_fields.specs.Fields.{◌>>=◌}
 use Rattle.frame_script.specs.declared.cause.Cause.{Cause}
 use Rattle.frame_script.specs.declared.cause.Cause.TheVariants.{BadCurve}
 use Rattle.frame_script.specs.Causes.{demand}

@@ -1,5 +1,5 @@
 -- Reading line by line, and the relations of texts: the two agree.
-use Rattle.std.proofs.Common.{◌≡◌, ◌≢◌, ℕ, suc, ◌+◌, ◌<◌, ◌≤◌, Bool, true, false, cond, ltb, List, [], ◌∷◌, ◌++◌, length, ◌⊎◌, inl, inr, zero-add, Result, Ok, Err, refl, ap, sym, subst, ◌∙◌, arith}
+use Rattle.std.proofs.Common.{◌≡◌, ◌≢◌, ℕ, suc, ◌+◌, ◌≤◌, Bool, true, false, cond, ltb, List, [], ◌∷◌, ◌++◌, length, ◌⊎◌, inl, inr, zero-add, Result, Ok, Err, refl, ap, sym, ◌∙◌, arith}
 use Rattle.std.proofs.lemmas.Bool.{le-ltb, lt-ltb, ltb-true, ltb-false}
 use Rattle.tree_commit.specs.Scripts.{ScriptLists}
 use Rattle.script_fields.specs.Fields.{◌>>=◌}
@@ -9,7 +9,7 @@ use Rattle.frame_script.specs.declared.cause.Cause.TheVariants.{MissingPart, Too
 use Rattle.frame_script.specs.Causes.{Refusal}
 use Rattle.frame_script.specs.Lines.{lines}
 use Rattle.frame_script.specs.States.{Stage, AtHeader, AtMain, InMain, InModel, InCompositor, AtEnd, Ended, ScriptState, at, beginning, after_line}
-use Rattle.frame_script.specs.Texts.{LeadTo, Spells, IsWrongAt, IsCutOff, IsTooLong, IsWrong, IsRefusedAt}
+use Rattle.frame_script.specs.Texts.{LeadTo, Spells, IsWrongAt, IsCutOff, IsRefusedAt}
 use Rattle.frame_script.specs.Reading.{refusal, numbered, end_at, reading_from, reading}
 
 -- ---- the end

@@ -1,16 +1,8 @@
-pub mod Cuts
 pub mod Opened
-pub mod Keys
 pub mod Books
 pub mod Leads
 pub mod Ranges
 pub mod Lasting
 pub mod Sound
-pub mod Steps
 pub mod Prefix
 pub mod Again
-pub mod Lined
-pub mod ModelsBack
-pub mod StepsBack
-pub mod ScriptsBack
-pub mod TextSteps

@@ -1,11 +1,9 @@
 -- A refusal depends on the lines up to its own alone, and the checks that are made again never decide.
-use Rattle.std.proofs.Common.{◌≡◌, ◌≢◌, ℕ, zero, suc, ◌+◌, ◌-◌, ◌<◌, ◌≤◌, Bool, true, false, cond, eqb, List, [], ◌∷◌, ◌++◌, take, length, length-append, Option, Some, None, ◌⊎◌, inl, inr, Result, Ok, Err, refl, ap, sym, subst, ◌∙◌, add-one, append_assoc, arith}
-use Rattle.std.specs.Prelude.{option_map, is_none}
-use Rattle.frame_script.specs.declared.TheConstants.{MOST_BYTES}
+use Rattle.std.proofs.Common.{◌≡◌, ℕ, zero, suc, ◌+◌, ◌<◌, ◌≤◌, List, [], ◌∷◌, ◌++◌, take, length, ◌⊎◌, inl, inr, refl, ap, sym, subst, ◌∙◌, add-one, append_assoc, arith}
 use Rattle.frame_script.specs.declared.cause.Cause.{Cause}
 use Rattle.frame_script.specs.Lines.{lines}
-use Rattle.frame_script.specs.States.{ScriptState, beginning, after_line}
-use Rattle.frame_script.specs.Texts.{LeadTo, IsWrongAt, IsCutOff, IsWrong, IsRefusedAt}
+use Rattle.frame_script.specs.States.{ScriptState, beginning}
+use Rattle.frame_script.specs.Texts.{LeadTo, IsWrongAt, IsCutOff, IsRefusedAt}
 
 -- the front of lines that lead somewhere leads somewhere
 front_leads : (from to : ScriptState) (text : List (List ℕ)) (j : ℕ) → LeadTo from text to → (state : ScriptState) × LeadTo from (take j text) state

@@ -1,9 +1,8 @@
 -- What a line says is of values that may be.
-use Rattle.std.proofs.Common.{◌≡◌, ℕ, suc, ◌+◌, ◌<◌, ◌≤◌, Bool, true, false, cond, leb, eqb, ◌&&◌, ℤ, pos, negsuc, List, [], ◌∷◌, length, Option, Some, None, Result, Ok, Err, refl, ap, sym, subst, ◌∙◌, arith}
+use Rattle.std.proofs.Common.{◌≡◌, ℕ, ◌≤◌, Bool, true, false, cond, leb, eqb, ◌&&◌, ℤ, pos, negsuc, List, [], ◌∷◌, length, Option, Some, None, Result, Ok, Err, refl, ap, subst, arith}
 use Rattle.std.specs.Prelude.{ok_or, codes, IfSome}
 use Rattle.std.specs.Str.{bytes_eq}
 use Rattle.std.proofs.lemmas.Bool.{leb-true}
-use Rattle.anim_names.specs.declared.property.Property.{Property}
 use Rattle.anim_timeline.specs.declared.TheConstants.{LAST_TIME}
 use Rattle.anim_timeline.specs.Timelines.{IsTime}
 use Rattle.anim_delegate.specs.declared.policy.Policy.{Policy}
@@ -20,7 +19,7 @@ use Rattle.curve_keys.specs.Curves.{IsKey}
 use Rattle.keyframe_model.specs.Models.{IsId}
 use Rattle.tree_commit.specs.declared.runs.compositor_step.CompositorStep.{CompositorStep}
 use Rattle.tree_commit.specs.declared.runs.compositor_step.CompositorStep.TheVariants.{Pull, Activate, Tick}
-use Rattle.tree_commit.specs.Ranges.{IsLook, IsChange}
+use Rattle.tree_commit.specs.Ranges.{IsChange}
 use Rattle.tree_commit.specs.Edits.{Change, AddElement, RemoveElement, SetOpacity, SetTransform, AddTimeline, RemoveModel}
 use Rattle.tree_commit.specs.Scripts.{StepOfMain, EditStep, CommitStep, DrainStep, IsStep}
 use Rattle.script_fields.specs.declared.fault.FieldFault.{FieldFault}

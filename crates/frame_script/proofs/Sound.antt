@@ -1,10 +1,10 @@
 -- What is so in every state that lines lead to: what was read so far is well formed.
-use Rattle.std.proofs.Common.{◌≡◌, ◌≢◌, ℕ, suc, ◌+◌, ◌*◌, ◌<◌, ◌≤◌, Bool, true, false, cond, leb, ltb, eqb, ◌&&◌, List, [], ◌∷◌, ◌++◌, length, length-append, Option, Some, None, Result, Ok, Err, refl, ap, sym, subst, ◌∙◌, arith}
-use Rattle.std.specs.Prelude.{option_map, is_none, fold, All}
+use Rattle.std.proofs.Common.{◌≡◌, ℕ, ◌+◌, ◌*◌, ◌<◌, ◌≤◌, Bool, true, false, cond, leb, ltb, eqb, ◌&&◌, List, [], ◌∷◌, ◌++◌, length, length-append, Option, Some, None, Ok, Err, refl, ap, sym, subst, ◌∙◌, arith}
+use Rattle.std.specs.Prelude.{option_map, is_none, fold}
 use Rattle.std.specs.List.{AllByRecursion}
 use Rattle.std.specs.Str.{bytes_eq}
 use Rattle.std.specs.Prelude.{codes}
-use Rattle.std.proofs.lemmas.Bool.{leb-true, le-leb, le-ltb, lt-ltb, ltb-true, ltb-false, eqb-true, eqb-false}
+use Rattle.std.proofs.lemmas.Bool.{le-leb, ltb-true, ltb-false, eqb-true, eqb-false}
 use Rattle.std.proofs.lemmas.List.Elements.{All-from_recursion}
 use Rattle.anim_names.specs.Lanes.{letters_of}
 use Rattle.anim_names.specs.declared.lane.Lane.{Lane}
@@ -17,13 +17,12 @@ use Rattle.anim_timeline.specs.declared.TheConstants.{LAST_TIME}
 use Rattle.easing_fixed.specs.declared.easing.Easing.{Easing}
 use Rattle.easing_fixed.specs.Easings.{IsEasing}
 use Rattle.value_blend.specs.Blends.{IsOpacity}
-use Rattle.transform_ops.specs.declared.op.TransformOp.{TransformOp}
 use Rattle.transform_ops.specs.Lists.{IsList}
 use Rattle.curve_keys.specs.declared.key.Key.{Key}
 use Rattle.curve_keys.specs.declared.fault.CurveFault.{CurveFault}
-use Rattle.curve_keys.specs.Curves.{Keyframes, keyframes, IsKey, IsCurve, curve_refusal, duration_of}
+use Rattle.curve_keys.specs.Curves.{Keyframes, keyframes, IsKey, IsCurve, curve_refusal}
 use Rattle.curve_keys.proofs.Keys.{IsCurve-lasts}
-use Rattle.keyframe_model.specs.Models.{PropertyCurve, OpacityCurve, TransformCurve, IsPropertyCurve, property_of_curve, curve_duration, Spec, IsModel}
+use Rattle.keyframe_model.specs.Models.{PropertyCurve, OpacityCurve, TransformCurve, IsPropertyCurve, property_of_curve, curve_duration, IsModel}
 use Rattle.tree_commit.specs.declared.edits.refusal.EditRefusal.{EditRefusal}
 use Rattle.tree_commit.specs.declared.edits.refusal.EditRefusal.TheVariants.{Limit}
 use Rattle.tree_commit.specs.declared.runs.compositor_step.CompositorStep.{CompositorStep}
@@ -38,12 +37,12 @@ use Rattle.frame_script.specs.declared.cause.Cause.TheVariants.{Edit, BadHeader,
 use Rattle.frame_script.specs.declared.model_line.ModelLine.{ModelLine}
 use Rattle.frame_script.specs.Causes.{demand, allow}
 use Rattle.frame_script.specs.Lines.{is_skipped}
-use Rattle.frame_script.specs.Said.{MainLine, SaysStep, SaysModel, main_said, model_said, step_said, key_said, is_one, own_opacity, own_list, compositor_said, word_said}
-use Rattle.frame_script.specs.States.{PropertyKeys, OpacityKeys, TransformKeys, Stage, AtHeader, AtMain, InMain, InModel, InCompositor, AtEnd, Ended, ScriptState, at, empty_script, beginning, has_room, step_refusal, main_with, with_main, step_made, no_keys, model_allowed, model_begun, with_key, keys_with, key_count, taken_curve, curve_through, lasting, model_with, model_through, model_made, after_key, key_made, main_made, in_main, last_from, are_too_many, tick_refusal, compositor_refusal, compositor_with, with_compositor, compositor_made, is_word_of, word_made, in_compositor, only, at_stage, after_line}
+use Rattle.frame_script.specs.Said.{SaysStep, SaysModel, main_said, model_said, step_said, key_said, is_one, own_opacity, own_list, compositor_said, word_said}
+use Rattle.frame_script.specs.States.{PropertyKeys, OpacityKeys, TransformKeys, Stage, AtHeader, AtMain, InMain, InModel, InCompositor, AtEnd, Ended, ScriptState, at, beginning, has_room, step_refusal, main_with, with_main, step_made, no_keys, model_allowed, model_begun, with_key, keys_with, key_count, taken_curve, curve_through, model_with, model_through, model_made, after_key, key_made, main_made, in_main, last_from, are_too_many, compositor_refusal, compositor_with, with_compositor, compositor_made, is_word_of, word_made, in_compositor, only, at_stage, after_line}
 use Rattle.frame_script.specs.Texts.{LeadTo, Spells}
-use Rattle.frame_script.proofs.Books.{book_of-push, allowed_is, ticks_with, ticks_of-push}
+use Rattle.frame_script.proofs.Books.{allowed_is, ticks_with, ticks_of-push}
 use Rattle.frame_script.proofs.Ranges.{done, ok_is, guarded, picked, IsLine, line_in_range, step_in_range, key_in_range, own_opacity_fits, own_list_fits, IsCompositorStep, compositor_in_range}
-use Rattle.frame_script.proofs.Lasting.{lasting_fits, demand_is, AreKeys, no_keys_yet, one_key_more, every-push, make_a_curve}
+use Rattle.frame_script.proofs.Lasting.{lasting_fits, demand_is, AreKeys, no_keys_yet, one_key_more, every-push}
 
 -- ---- main's steps
 

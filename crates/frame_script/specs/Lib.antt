@@ -5,7 +5,5 @@ pub mod States
 pub mod Texts
 pub mod Reading
 pub mod Worked
-pub mod Views
-pub mod Books
 pub mod Scripts
 pub mod Printing

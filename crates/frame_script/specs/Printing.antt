@@ -1,5 +1,5 @@
 -- A script as text: a line of fields for each step and each key, and no line that is skipped.
-use Rattle.std.specs.Prelude.{ℕ, List, [], ◌∷◌, ◌++◌, map, length, codes}
+use Rattle.std.specs.Prelude.{ℕ, List, [], ◌∷◌, ◌++◌, length, codes}
 use Rattle.std.specs.List.{flat_map}
 use Rattle.std.specs.Fmt.{decimal, signed_decimal}
 use Rattle.anim_delegate.specs.declared.policy.Policy.{Policy}

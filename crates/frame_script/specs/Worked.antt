@@ -1,7 +1,6 @@
 -- Texts of which the reading is worked out.
-use Rattle.std.specs.Prelude.{ℕ, ◌-◌, List, [], ◌∷◌, ◌++◌, take, drop, codes, ℤ, pos, negsuc, Option, None, Some}
+use Rattle.std.specs.Prelude.{ℕ, ◌-◌, List, [], ◌∷◌, ◌++◌, take, drop, codes, pos, negsuc, None, Some}
 use Rattle.std.specs.List.{flat_map}
-use Rattle.anim_names.specs.declared.lane.Lane.{Lane}
 use Rattle.anim_names.specs.declared.lane.Lane.TheVariants.{Main, Compositor}
 use Rattle.anim_delegate.specs.declared.policy.Policy.TheVariants.{Auto, Manual}
 use Rattle.micro_time.specs.declared.direction.Direction.TheVariants.{Normal, AlternateReverse}

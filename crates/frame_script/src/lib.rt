@@ -1,37 +1,20 @@
-//! The text of a script: which bytes spell one, and which are refused, at which line and why.
+//! Scripts, and their text: which bytes spell a script, which are refused, at which line and why, and what a script is
+//! printed as. Reading and printing are crates of their own above this one.
 #![tactic(auto)]
 
 mod cause;
-mod compositor_part;
-mod compositor_said;
-mod draft;
-mod edit_said;
 mod fault;
-mod key_list;
-mod key_said;
-mod key_value;
 pub mod laws;
-mod lines;
-mod main_part;
 mod model_line;
-mod model_said;
-mod model_with;
-pub mod print_laws;
-mod printing;
-mod reader;
-mod reading;
 mod script;
 mod word;
 pub mod worked;
 
 pub use cause::Cause;
 pub use fault::ScriptFault;
-pub use printing::print_script;
-pub use reading::read_script;
+pub use model_line::{ModelLine, ModelNames};
 pub use script::Script;
+pub use word::is_word_of;
 
 /// The most bytes that a script may have: 2^20.
 pub const MOST_BYTES: usize = 1 << 20;
-
-#[cfg(test)]
-mod tests;

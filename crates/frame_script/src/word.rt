@@ -7,7 +7,7 @@ ghost use Rattle.frame_script.specs.States.{is_word_of};
 use anim_names::Lane;
 
 /// Whether a word has so many letters of main and so many of the compositor.
-pub(crate) fn is_word_of(main: usize, compositor: usize, word: &[Lane]) -> bool
+pub fn is_word_of(main: usize, compositor: usize, word: &[Lane]) -> bool
     ensures { result ≡ is_word_of main compositor word.now }
 {
     letters_of(Lane::Main, word) == main && letters_of(Lane::Compositor, word) == compositor

@@ -1,7 +1,8 @@
-//! Tests of main's tree, of commits and frames, of the compositor's trees and of the board between the lanes.
+//! Tests of main's tree, of commits and frames, of the compositor's trees, of the board between the lanes, and of scripts
+//! that are read and printed.
 //!
-//! All of them need models, edits and commits. The builders of these stand here once, and so the tests stand here and
-//! not in the crates that they try. The library itself is empty.
+//! Most of them need models, edits and commits. The builders of these stand here once, and so the tests stand here and
+//! not in the crates that they try. The others need two crates of which none uses the other. The library itself is empty.
 #![tactic(auto)]
 
 #[cfg(test)]
@@ -18,5 +19,7 @@ mod hearing;
 mod host;
 #[cfg(test)]
 mod samples;
+#[cfg(test)]
+mod scripts;
 #[cfg(test)]
 mod trees;

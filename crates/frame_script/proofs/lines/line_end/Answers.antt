@@ -1,6 +1,0 @@
-use Rattle.std.proofs.Common.{◌∙◌}
-use Rattle.frame_script.proofs.Cuts.{unwrap_or-position}
-use Rattle.frame_script.proofs.lines.line_end.Goals as goal
-
-pub returns-clause-place : goal.returns-clause-place
-returns-clause-place c = c.unwrap_or.ensures ∙ (rw c.line_feed.ensures (unwrap_or-position c.args.text.now))

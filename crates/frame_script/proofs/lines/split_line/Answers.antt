@@ -1,7 +1,0 @@
-use Rattle.std.proofs.Common.{arith}
-use Rattle.std.proofs.lemmas.Bool.Decides.{nat_tests}
-use Rattle.frame_script.proofs.Cuts.{split_is}
-use Rattle.frame_script.proofs.lines.split_line.Goals as goal
-
-pub returns-clause-cases : goal.returns-clause-cases
-returns-clause-cases c = split_is c.args.text.now c.line_end-end.result c.min-after.result (grind (arith, nat_tests)) c.line_end-end.ensures.place (omega arith)

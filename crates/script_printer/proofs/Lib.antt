@@ -1,0 +1,5 @@
+pub mod TextSteps
+pub mod Lined
+pub mod ModelsBack
+pub mod StepsBack
+pub mod ScriptsBack

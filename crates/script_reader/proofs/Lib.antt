@@ -1,0 +1,4 @@
+pub mod Cuts
+pub mod Keys
+pub mod Books
+pub mod Steps

@@ -1,0 +1,52 @@
+//! The lines of the compositor's steps and of the word, by their fields.
+
+ghost use Rattle.std.specs.Prelude.{◌≡◌, map};
+ghost use Rattle.script_reader.specs.LineFaults.{Gives};
+ghost use Rattle.frame_script.specs.Said as said;
+
+use crate::edit_said::alone;
+use crate::fault::LineFault;
+use anim_names::Lane;
+use frame_script::Cause;
+use script_fields::is;
+use script_fields::values::time_said;
+use script_fields::words::letters_said;
+use std::alloc::Global;
+use tree_commit::CompositorStep;
+
+/// A step of the compositor: its name, and the further fields of its line.
+#[tactic(auto, unfolding(frame_script::specs::Said::compositor_said))]
+pub(crate) fn compositor_said(name: &[u8], fields: &[&[u8]]) -> Result<CompositorStep, LineFault>
+    ensures { Gives (λ step. step) result (said.compositor_said name.now (map (λ field. field.now) fields.now)) }
+{
+    if is(name, "pull") {
+        alone(fields)?;
+        Ok(CompositorStep::Pull)
+    } else if is(name, "activate") {
+        alone(fields)?;
+        Ok(CompositorStep::Activate)
+    } else if is(name, "tick") {
+        tick_said(fields)
+    } else {
+        Err(LineFault::Refused(Cause::BadLine))
+    }
+}
+
+fn tick_said(fields: &[&[u8]]) -> Result<CompositorStep, LineFault>
+    ensures { Gives (λ step. step) result (said.tick_said (map (λ field. field.now) fields.now)) }
+{
+    match fields {
+        [time] => Ok(CompositorStep::Tick(time_said(time).ok_or(Cause::BadNumber)?)),
+        _ => Err(LineFault::Refused(Cause::BadLine)),
+    }
+}
+
+/// The letters of a word, by the further fields of its line.
+pub(crate) fn word_said(alloc: Global, fields: &[&[u8]]) -> Result<Vec<Lane>, LineFault>
+    ensures { Gives (λ word. word.items) result (said.word_said (map (λ field. field.now) fields.now)) }
+{
+    match fields {
+        [letters] => Ok(letters_said(alloc, letters)?.ok_or(Cause::BadWord)?),
+        _ => Err(LineFault::Refused(Cause::BadLine)),
+    }
+}

@@ -1,0 +1,303 @@
+//! What is read of a script between two lines.
+
+ghost use Rattle.std.specs.Prelude.{◌≡◌, None, map, IfOk};
+ghost use Rattle.script_fields.specs.Fields.{fields};
+ghost use Rattle.script_reader.specs.LineFaults.{Gives, read_then};
+ghost use Rattle.frame_script.specs.Said.{step_said, model_said, compositor_said, word_said};
+ghost use Rattle.frame_script.specs.Reading.{GivesScript, numbered, end_at};
+ghost use Rattle.frame_script.specs.States as state;
+ghost use Rattle.tree_commit.specs.Scripts.{IsWellFormed};
+ghost use Rattle.script_reader.specs.Views.{keys_of, stage_of, state_of};
+
+use crate::compositor_part::CompositorPart;
+use crate::compositor_said::{compositor_said, word_said};
+use crate::draft::Draft;
+use crate::edit_said::step_said;
+use crate::fault::LineFault;
+use crate::lines::is_skipped;
+use crate::main_part::MainPart;
+use crate::model_said::model_said;
+use anim_names::Lane;
+use frame_script::{Cause, Script, ScriptFault, is_word_of};
+use script_fields::{fields_of, is};
+use std::alloc::{AllocError, Global};
+use std::sync::Arc;
+use tree_commit::{Edit, MainStep};
+
+/// Which line may stand next, where that is no key.
+#[derive(Clone, Copy, Debug, PartialEq, Eq)]
+pub(crate) enum Place {
+    Header,
+    MainPart,
+    MainLines,
+    CompositorLines,
+    End,
+    Nothing,
+}
+
+/// The script so far, and which line may stand next.
+pub(crate) struct Reader {
+    pub(crate) place: Place,
+    /// The model to which the next line is to add a key.
+    pub(crate) draft: Option<Draft>,
+    pub(crate) main: MainPart,
+    pub(crate) compositor: CompositorPart,
+    pub(crate) word: Vec<Lane>,
+}
+
+impl Drop for Reader {
+    fn drop(self) {
+        let Reader {
+            place: _,
+            draft: _draft,
+            main: _main,
+            compositor: _compositor,
+            word: _word,
+        } = self;
+    }
+}
+
+impl Reader {
+    /// Before the first line.
+    pub(crate) fn new(alloc: Global) -> Result<Reader, AllocError>
+        ensures { IfOk result (λ reader. state_of reader ≡ state.beginning) }
+    {
+        Ok(Reader {
+            place: Place::Header,
+            draft: None,
+            main: MainPart::new(alloc)?,
+            compositor: CompositorPart::new(alloc),
+            word: Vec::new(alloc),
+        })
+    }
+
+    /// Takes a line that is not skipped.
+    #[tactic(auto, unfolding(frame_script::specs::States::at_stage))]
+    pub(crate) fn take_line(&mut self, alloc: Global, line: &[u8]) -> Result<(), LineFault>
+        ensures { Gives (λ _. state_of self.new) result (state.at_stage (state_of self.old).stage (state_of self.old).script line.now) }
+    {
+        match self.draft.take() {
+            Some(draft) => self.take_key(alloc, draft, line),
+            None => self.take_at_place(alloc, line),
+        }
+    }
+
+    #[tactic(auto, unfolding(frame_script::specs::States::at_stage))]
+    fn take_at_place(&mut self, alloc: Global, line: &[u8]) -> Result<(), LineFault>
+        requires { self.old.draft ≡ None }
+        ensures { Gives (λ _. state_of self.new) result (state.at_stage (stage_of self.old.place) (state_of self.old).script line.now) }
+    {
+        match self.place {
+            Place::Header => self.take_only("anim 1", Cause::BadHeader, Place::MainPart, line),
+            Place::MainPart => self.take_only("main", Cause::BadLine, Place::MainLines, line),
+            Place::MainLines => self.take_main(alloc, line),
+            Place::CompositorLines => self.take_compositor(alloc, line),
+            Place::End => self.take_only("end", Cause::BadLine, Place::Nothing, line),
+            Place::Nothing => Err(LineFault::Refused(Cause::BadLine)),
+        }
+    }
+
+    // Exactly this line leads to the place.
+    fn take_only(
+        &mut self,
+        text: &str,
+        cause: Cause,
+        place: Place,
+        line: &[u8],
+    ) -> Result<(), LineFault>
+        requires { self.old.draft ≡ None }
+        ensures { Gives (λ _. state_of self.new) result (state.only text.now cause (stage_of place) (state_of self.old).script line.now) }
+    {
+        if !is(line, text) {
+            return Err(LineFault::Refused(cause));
+        }
+        self.place = place;
+        Ok(())
+    }
+
+    #[tactic(auto, unfolding(frame_script::specs::States::at_stage))]
+    fn take_main(&mut self, alloc: Global, line: &[u8]) -> Result<(), LineFault>
+        requires draft { self.old.draft ≡ None }
+        requires place { self.old.place ≡ Place.MainLines }
+        ensures { Gives (λ _. state_of self.new) result (state.at_stage state.InMain (state_of self.old).script line.now) }
+    {
+        if is(line, "compositor") {
+            self.place = Place::CompositorLines;
+            return Ok(());
+        }
+        let fields = fields_of(alloc, line)?;
+        self.take_main_fields(alloc, fields.as_slice())
+    }
+
+    #[tactic(auto, unfolding(frame_script::specs::States::in_main))]
+    fn take_main_fields(&mut self, alloc: Global, fields: &[&[u8]]) -> Result<(), LineFault>
+        requires draft { self.old.draft ≡ None }
+        requires place { self.old.place ≡ Place.MainLines }
+        ensures { Gives (λ _. state_of self.new) result
+            (state.in_main (state_of self.old).script (map (λ field. field.now) fields.now)) }
+    {
+        match fields {
+            [name, more @ ..] if is(name, "model") => self.begin_model(alloc, more),
+            [name, more @ ..] => self.take_step(alloc, name, more),
+            _ => Err(LineFault::Refused(Cause::BadLine)),
+        }
+    }
+
+    #[tactic(auto, unfolding(frame_script::specs::States::step_made))]
+    fn take_step(&mut self, alloc: Global, name: &[u8], fields: &[&[u8]]) -> Result<(), LineFault>
+        requires draft { self.old.draft ≡ None }
+        requires place { self.old.place ≡ Place.MainLines }
+        ensures { Gives (λ _. state_of self.new) result
+            (read_then (step_said name.now (map (λ field. field.now) fields.now)) (state.step_made (state_of self.old).script)) }
+    {
+        let step = match step_said(alloc, name, fields) {
+            Ok(step) => step,
+            Err(fault) => return Err(fault),
+        };
+        self.main.push(step)
+    }
+
+    #[tactic(auto, unfolding(frame_script::specs::States::model_begun))]
+    fn begin_model(&mut self, alloc: Global, fields: &[&[u8]]) -> Result<(), LineFault>
+        requires { self.old.draft ≡ None }
+        ensures { Gives (λ _. state_of self.new) result
+            (read_then (model_said (map (λ field. field.now) fields.now)) (state.model_begun (state_of self.old).script)) }
+    {
+        let line = match model_said(alloc, fields) {
+            Ok(line) => line,
+            Err(fault) => return Err(fault),
+        };
+        self.main.check_model(&line.names)?;
+        self.draft = Some(Draft::new(alloc, line));
+        Ok(())
+    }
+
+    #[tactic(auto, unfolding(frame_script::specs::States::key_made))]
+    fn take_key(&mut self, alloc: Global, draft: Draft, line: &[u8]) -> Result<(), LineFault>
+        requires { self.old.draft ≡ None }
+        ensures { Gives (λ _. state_of self.new) result
+            (state.key_made (state_of self.old).script draft.line (keys_of draft.keys) (fields line.now)) }
+    {
+        let mut draft = draft;
+        let fields = fields_of(alloc, line)?;
+        draft.push_said(alloc, fields.as_slice())?;
+        if draft.is_full() {
+            self.end_model(alloc, draft)
+        } else {
+            self.draft = Some(draft);
+            Ok(())
+        }
+    }
+
+    // The last key of a model makes it a step of main.
+    #[tactic(auto, unfolding(frame_script::specs::States::model_made, frame_script::specs::States::step_made))]
+    fn end_model(&mut self, alloc: Global, draft: Draft) -> Result<(), LineFault>
+        requires { self.old.draft ≡ None }
+        ensures { Gives (λ _. state_of self.new) result
+            (state.model_made (state_of self.old).script draft.line (keys_of draft.keys)) }
+    {
+        let model = match draft.into_model() {
+            Ok(model) => model,
+            Err(fault) => return Err(fault),
+        };
+        let spec = Arc::new(alloc, model)?;
+        self.place = Place::MainLines;
+        self.main.push(MainStep::Edit(Edit::AddModel { spec }))
+    }
+
+    fn take_compositor(&mut self, alloc: Global, line: &[u8]) -> Result<(), LineFault>
+        requires draft { self.old.draft ≡ None }
+        requires place { self.old.place ≡ Place.CompositorLines }
+        ensures { Gives (λ _. state_of self.new) result
+            (state.in_compositor (state_of self.old).script (fields line.now)) }
+    {
+        let fields = fields_of(alloc, line)?;
+        self.take_compositor_fields(alloc, fields.as_slice())
+    }
+
+    #[tactic(auto, unfolding(frame_script::specs::States::in_compositor))]
+    fn take_compositor_fields(&mut self, alloc: Global, fields: &[&[u8]]) -> Result<(), LineFault>
+        requires draft { self.old.draft ≡ None }
+        requires place { self.old.place ≡ Place.CompositorLines }
+        ensures { Gives (λ _. state_of self.new) result
+            (state.in_compositor (state_of self.old).script (map (λ field. field.now) fields.now)) }
+    {
+        match fields {
+            [name, more @ ..] if is(name, "word") => self.take_word(alloc, more),
+            [name, more @ ..] => self.take_compositor_step(name, more),
+            _ => Err(LineFault::Refused(Cause::BadLine)),
+        }
+    }
+
+    #[tactic(auto, unfolding(frame_script::specs::States::compositor_made))]
+    fn take_compositor_step(&mut self, name: &[u8], fields: &[&[u8]]) -> Result<(), LineFault>
+        requires draft { self.old.draft ≡ None }
+        requires place { self.old.place ≡ Place.CompositorLines }
+        ensures { Gives (λ _. state_of self.new) result
+            (read_then (compositor_said name.now (map (λ field. field.now) fields.now)) (state.compositor_made (state_of self.old).script)) }
+    {
+        let step = compositor_said(name, fields)?;
+        self.compositor.push(self.main.elements_added(), step)
+    }
+
+    #[tactic(auto, unfolding(frame_script::specs::States::word_made))]
+    fn take_word(&mut self, alloc: Global, fields: &[&[u8]]) -> Result<(), LineFault>
+        requires { self.old.draft ≡ None }
+        ensures { Gives (λ _. state_of self.new) result
+            (read_then (word_said (map (λ field. field.now) fields.now)) (state.word_made (state_of self.old).script)) }
+    {
+        let word = word_said(alloc, fields)?;
+        if !is_word_of(self.main.len(), self.compositor.len(), word.as_slice()) {
+            return Err(LineFault::Refused(Cause::BadWord));
+        }
+        self.word = word;
+        self.place = Place::End;
+        Ok(())
+    }
+
+    /// Takes the line of a number. A line that is skipped changes nothing.
+    #[tactic(auto, unfolding(frame_script::specs::States::after_line))]
+    pub(crate) fn read_line(
+        &mut self,
+        alloc: Global,
+        number: u32,
+        line: &[u8],
+    ) -> Result<(), ScriptFault>
+        ensures { GivesScript (λ _. state_of self.new) result (numbered number (state.after_line (state_of self.old) line.now)) }
+    {
+        if is_skipped(line) {
+            return Ok(());
+        }
+        match self.take_line(alloc, line) {
+            Ok(()) => Ok(()),
+            Err(LineFault::Refused(cause)) => Err(ScriptFault::Refused {
+                line: number,
+                cause,
+            }),
+            Err(LineFault::NoMemory) => Err(ScriptFault::NoMemory),
+        }
+    }
+
+    /// The script, where it has ended. The number is that of the line that would stand next.
+    pub(crate) fn into_script(self, number: u32) -> Result<Script, ScriptFault>
+        requires { (state_of self).stage ≡ state.Ended → IsWellFormed (state_of self).script }
+        ensures { GivesScript (λ script. script) result (end_at number (state_of self).stage (state_of self).script) }
+    {
+        let Reader {
+            place,
+            draft,
+            main,
+            compositor,
+            word,
+        } = self;
+        match (draft, place) {
+            (None, Place::Nothing) => {
+                Ok(Script::new(main.into_steps(), compositor.into_steps(), word))
+            }
+            _ => Err(ScriptFault::Refused {
+                line: number,
+                cause: Cause::MissingPart,
+            }),
+        }
+    }
+}
