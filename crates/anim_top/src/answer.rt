@@ -10,7 +10,8 @@ use crate::{Hooks, Status};
 use anim_delegate::VerdictFunction;
 use easing_fixed::EasingFunction;
 use frame_report::print_report;
-use frame_script::{Cause, ScriptFault, read_script};
+use frame_script::{Cause, ScriptFault};
+use script_reader::read_script;
 use std::alloc::{AllocError, Global};
 
 /// A status, and all that is written before the program ends with it. Writing the text is the caller's part.

@@ -8,7 +8,7 @@ use crate::replaying::report_of;
 use anim_delegate::VerdictFunction;
 use easing_fixed::EasingFunction;
 use frame_report::{print_report, print_summary};
-use frame_script::print_script;
+use script_printer::print_script;
 use script_gen::{MOST_GENERATED, generate};
 use std::alloc::{AllocError, Global};
 

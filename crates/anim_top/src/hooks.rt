@@ -5,8 +5,8 @@ use easing_fixed::{EasingFunction, Evaluator};
 /// easing.
 ///
 /// Both types keep what their functions answer, so the report is the same whichever functions they are. Hooks keep
-/// nothing of a run, and both lanes may use them at once where the functions may be shared. A replay of today's one form
-/// of script asks the evaluator alone, since nothing that main drops shows in its report.
+/// nothing of a run, and both lanes may use them at once where the functions may be shared. Main asks the delegate at
+/// each event that it hears, and the compositor the evaluator at each value that an easing bends.
 #[derive(Drop)]
 pub struct Hooks<F: VerdictFunction, E: EasingFunction> {
     pub delegate: Delegate<F>,

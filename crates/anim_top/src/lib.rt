@@ -19,3 +19,6 @@ pub use arguments::Command;
 pub use commands::{command, plain_command};
 pub use hooks::Hooks;
 pub use status::Status;
+
+#[cfg(test)]
+mod tests;

@@ -1,4 +1,5 @@
-//! `cctick` replays the script on standard input and writes its report to standard output.
+//! `cctick` replays the script on standard input and writes its report to standard output. It also makes large scripts
+//! from a number, and replays these.
 #![tactic(auto)]
 
 ghost use Rattle.anim_delegate.specs.Delegates.{MayAsk, FollowsTable};
@@ -17,7 +18,7 @@ use std::{env, io};
 fn main(rt: HostRuntime) -> ExitCode {
     let status = answer(&rt);
     if status == Status::Usage {
-        let _ = eprintln!(rt; "usage: cctick replay");
+        let _ = eprintln!(rt; "usage: cctick replay | gen N | load N");
     }
     ExitCode::from(status.number())
 }

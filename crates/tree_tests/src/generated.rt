@@ -1,0 +1,81 @@
+//! Scripts that are made from a number, as they are printed.
+
+use script_gen::generate;
+use script_printer::print_script;
+use std::test::Fail;
+
+const OF_ONE: &str = "anim 1
+main
+timeline 1 0
+element 1 1000000 translate:0:0:0
+model 1 1 1 1 opacity - 0 2000 0 reverse both 1000 auto linear 2
+key 0 linear 1000000
+key 101000 linear 0
+model 2 1 1 1 transform - 0 1000 0 normal both 1000 auto linear 2
+key 0 steps:4:jump-end translate:0:0:0
+key 200000 linear translate:1000:0:0
+commit
+drain
+commit
+drain
+compositor
+tick 0
+pull
+activate
+tick 16667
+tick 33334
+tick 50001
+word MMMCMMMCMMCCCC
+end
+";
+
+// Lines of the script made from 8, by their numbers.
+const OF_EIGHT: [(usize, &str); 15] = [
+    (
+        12,
+        "model 3 2 2 1 opacity - 0 3000 0 alternate both 1000 auto cubic:250000:100000:250000:1000000 2",
+    ),
+    (
+        19,
+        "model 5 3 3 1 opacity - 0 1000 0 alternate-reverse both 1000 auto linear 2",
+    ),
+    (
+        54,
+        "model 15 8 8 1 opacity - 0 3000 0 normal both 1000 auto cubic:250000:100000:250000:1000000 2",
+    ),
+    (56, "key 108000 linear 0"),
+    (59, "key 200000 linear translate:8000:0:0"),
+    (60, "commit"),
+    (61, "drain"),
+    (62, "commit"),
+    (63, "drain"),
+    (64, "drop-model 10"),
+    (65, "drop-element 7"),
+    (66, "commit"),
+    (75, "tick 66668"),
+    (76, "pull"),
+    (118, "end"),
+];
+
+#[test]
+fn the_script_of_one_element_is_printed(rt: HostRuntime) -> Result<(), Fail> {
+    let text = print_script(rt.alloc(), &generate(rt.alloc(), 1)?)?;
+    assert!(rt; text.as_slice() == OF_ONE.as_bytes());
+    Ok(())
+}
+
+#[test]
+fn commits_and_drops_stand_where_a_number_divides(rt: HostRuntime) -> Result<(), Fail> {
+    let text = print_script(rt.alloc(), &generate(rt.alloc(), 8)?)?;
+    for (number, expected) in OF_EIGHT {
+        assert_eq!(rt; line_of(&text, number), expected.as_bytes());
+    }
+    Ok(())
+}
+
+// The line of this number, from 1, or an empty one.
+fn line_of(text: &[u8], number: usize) -> &[u8] {
+    text.split(|byte| *byte == b'\n')
+        .nth(number.saturating_sub(1))
+        .unwrap_or(b"")
+}
