@@ -31,7 +31,7 @@ const FADE: [&str; 16] = [
 struct Change(usize, &'static str, usize, usize);
 
 /// The fade with a change: at which line it is refused, and why.
-const REFUSED: [(Change, u32, Cause); 30] = [
+const REFUSED: [(Change, u32, Cause); 32] = [
     (Change(0, "", 0, 16), 1, Cause::MissingPart),
     (Change(0, "anim 3\n", 1, 1), 1, Cause::BadHeader),
     (Change(8, "compositors\n", 1, 9), 9, Cause::BadLine),
@@ -96,6 +96,17 @@ const REFUSED: [(Change, u32, Cause); 30] = [
         Cause::Edit(EditRefusal::Limit(LimitName::Commits)),
     ),
     (Change(0, "#", MOST_BYTES + 1, 16), 0, Cause::TooLong),
+    // A lane of 10,000 steps takes no more, whichever lane it is.
+    (
+        Change(7, "drain\n", 10_000, 8),
+        10_005,
+        Cause::Edit(EditRefusal::Limit(LimitName::Steps)),
+    ),
+    (
+        Change(11, "pull\n", 10_000, 16),
+        10_010,
+        Cause::Edit(EditRefusal::Limit(LimitName::Steps)),
+    ),
     // Where two things are wrong, the first in order decides.
     (
         Change(3, "element 1 0 none translate:0:0:0\n", 1, 4),
@@ -144,7 +155,7 @@ const REFUSED: [(Change, u32, Cause); 30] = [
         8,
         Cause::BadLine,
     ),
-    (Change(0, "\n", 1000, 1), 1001, Cause::BadHeader),
+    (Change(0, "\n", 1_000_000, 1), 1_000_001, Cause::BadHeader),
     // Behind the end may stand nothing but lines that are skipped.
     (Change(16, "\n# the end\nend", 1, 16), 19, Cause::BadLine),
     // A carriage return is a byte of its field.
