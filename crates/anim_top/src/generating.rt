@@ -8,8 +8,8 @@ use crate::replaying::report_of;
 use anim_delegate::VerdictFunction;
 use easing_fixed::EasingFunction;
 use frame_report::{print_report, print_summary};
-use script_printer::print_script;
 use script_gen::{MOST_GENERATED, generate};
+use script_printer::print_script;
 use std::alloc::{AllocError, Global};
 
 /// The text of the script that is made from a number.

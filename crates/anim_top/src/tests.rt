@@ -74,87 +74,6 @@ const EMPTY: &str = "anim 1\nmain\ncompositor\nword -\nend\n";
 
 const EMPTY_REPORT: &str = "report 1\nword -\nheard 0\nend\n";
 
-// A commit replaced before it is pulled, a pull while one is pending, and drains that hear nothing.
-const TWO_PULLS: &str = "anim 1
-main
-element 1 700000 none
-commit
-commit
-drain
-drain
-compositor
-pull
-pull
-activate
-activate
-tick 5
-pull
-tick 6
-word MMCMCCCCCCMM
-end
-";
-
-const TWO_PULLS_REPORT: &str = "report 1
-word MMCMCCCCCCMM
-frame 5 commit 1
-element 1 700000 none
-frame 6 commit 1
-element 1 700000 none
-heard 0
-heard 0
-heard 0
-end
-";
-
-// Two groups want one opacity: the second starts in the tick in which the whole first group finishes.
-const TWO_GROUPS: &str = "anim 1
-main
-timeline 1 0
-element 1 1000000 none
-model 1 1 1 1 opacity - 0 1000 0 normal none 1000 auto linear 2
-key 0 linear 0
-key 1000 linear 1000000
-model 2 1 1 1 transform - 0 1000 0 normal none 1000 auto linear 2
-key 0 linear translate:0:0:0
-key 3000 linear translate:3000:0:0
-model 3 2 1 1 opacity - 0 1000 0 normal none 1000 auto linear 2
-key 0 linear 500000
-key 1000 linear 0
-commit
-compositor
-pull
-activate
-tick 0
-tick 1000
-tick 2000
-tick 3000
-tick 4000
-word MMMMMMCCCCCCC
-end
-";
-
-const TWO_GROUPS_REPORT: &str = "report 1
-word MMMMMMCCCCCCC
-frame 0 commit 1
-element 1 0 translate:0:0:0
-frame 1000 commit 1
-element 1 1000000 translate:999:0:0
-frame 2000 commit 1
-element 1 1000000 translate:1999:0:0
-frame 3000 commit 1
-element 1 500000 none
-frame 4000 commit 1
-element 1 1000000 none
-started 1 group 1 at 0 start 0
-started 2 group 1 at 0 start 0
-finished 1 at 3000
-finished 2 at 3000
-started 3 group 2 at 3000 start 3000
-finished 3 at 4000
-heard 6
-end
-";
-
 // An aborted model: the activation of commit 2 drops it.
 const DROPPED: &str = "anim 1
 main
@@ -325,8 +244,6 @@ fn scripts_are_replayed(rt: HostRuntime) -> Result<(), Fail> {
     for (script, report) in [
         (SCRIPT, REPORT),
         (EMPTY, EMPTY_REPORT),
-        (TWO_PULLS, TWO_PULLS_REPORT),
-        (TWO_GROUPS, TWO_GROUPS_REPORT),
         (DROPPED, DROPPED_REPORT),
     ] {
         let (status, text) = replayed(&rt, script.as_bytes())?;
@@ -341,9 +258,19 @@ fn the_first_bad_line_is_refused(rt: HostRuntime) -> Result<(), Fail> {
     for (line, new, cause, name) in [
         (1, "anim 3", Cause::BadHeader, "BadHeader"),
         (4, "element 1 1000001 none", Cause::BadNumber, "BadNumber"),
-        (6, "key 0 steps:1:jump-none 0", Cause::BadEasing, "BadEasing"),
+        (
+            6,
+            "key 0 steps:1:jump-none 0",
+            Cause::BadEasing,
+            "BadEasing",
+        ),
         (7, "key 0 linear 1000000", Cause::BadCurve, "BadCurve"),
-        (8, "drop-model 9", Cause::Edit(EditRefusal::ModelUnknown), "ModelUnknown"),
+        (
+            8,
+            "drop-model 9",
+            Cause::Edit(EditRefusal::ModelUnknown),
+            "ModelUnknown",
+        ),
         (9, "compositors", Cause::BadLine, "BadLine"),
         (13, "tick 15999", Cause::TimeBack, "TimeBack"),
         (15, "word MMMMCCCC", Cause::BadWord, "BadWord"),
@@ -361,7 +288,7 @@ fn the_first_bad_line_is_refused(rt: HostRuntime) -> Result<(), Fail> {
 #[test]
 fn a_script_that_is_too_long_is_refused_with_a_byte_left(rt: HostRuntime) -> Result<(), Fail> {
     let (status, text) = replayed(&rt, vec![in rt.alloc(); b'#'; (1 << 20) + 1]?.as_slice())?;
-    assert!(rt; text.as_slice() == b"refused: line 0: TooLong\n");
+    assert!(rt; text.as_slice() == b"refused: line 0: TooLong\n".as_slice());
     assert!(rt; status.number() == 3);
     Ok(())
 }
@@ -369,7 +296,10 @@ fn a_script_that_is_too_long_is_refused_with_a_byte_left(rt: HostRuntime) -> Res
 #[test]
 fn made_scripts_are_written_and_loaded(rt: HostRuntime) -> Result<(), Fail> {
     for (arguments, report) in [
-        ("load 1", "load 1: frames 4 rows 3 started 2 finished 0 aborted 0 heard 2 bytes 309\n"),
+        (
+            "load 1",
+            "load 1: frames 4 rows 3 started 2 finished 0 aborted 0 heard 2 bytes 309\n",
+        ),
         ("gen 1", OF_ONE),
     ] {
         let (status, text) = written(&rt, arguments)?;
@@ -392,13 +322,25 @@ fn written(rt: &HostRuntime, text: &str) -> Result<(Status, Vec<u8>), AllocError
 #[test]
 fn any_delegate_and_any_evaluator_give_the_same_report(rt: HostRuntime) -> Result<(), Fail> {
     let alloc = rt.alloc();
-    let arguments = arguments_of(alloc, "load 8")?;
-    let (_, with_functions) = written(&rt, "load 8")?;
-    let mut source = SteadySource::new(Vec::new(alloc));
-    let mut sink = SteadySink::new(alloc, 200)?;
+    let arguments = arguments_of(alloc, "replay")?;
+    let (_, script) = written(&rt, "gen 5")?;
+    let (_, report) = replayed(&rt, script.as_slice())?;
+    let mut source = SteadySource::new(script);
+    let mut sink = SteadySink::new(alloc, report.len())?;
     let status = run_plainly(alloc, arguments.as_slice(), &mut source, &mut sink);
     assert!(rt; status == Status::Done);
-    assert!(rt; sink.taken() == with_functions.as_slice());
+    assert!(rt; sink.taken() == report.as_slice());
+    Ok(())
+}
+
+#[test]
+fn the_report_of_an_empty_script_has_28_bytes(rt: HostRuntime) -> Result<(), Fail> {
+    let alloc = rt.alloc();
+    let mut source = SteadySource::new(EMPTY.as_bytes().to_vec(alloc)?);
+    let mut sink = SteadySink::new(alloc, 28)?;
+    assert!(rt; steadily(&rt, &mut source, &mut sink)? == Status::Done);
+    assert!(rt; sink.is_whole());
+    assert!(rt; sink.taken() == EMPTY_REPORT.as_bytes());
     Ok(())
 }
 

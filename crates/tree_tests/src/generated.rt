@@ -1,33 +1,9 @@
 //! Scripts that are made from a number, as they are printed.
 
+use crate::scripts::REVERSED;
 use script_gen::generate;
 use script_printer::print_script;
 use std::test::Fail;
-
-const OF_ONE: &str = "anim 1
-main
-timeline 1 0
-element 1 1000000 translate:0:0:0
-model 1 1 1 1 opacity - 0 2000 0 reverse both 1000 auto linear 2
-key 0 linear 1000000
-key 101000 linear 0
-model 2 1 1 1 transform - 0 1000 0 normal both 1000 auto linear 2
-key 0 steps:4:jump-end translate:0:0:0
-key 200000 linear translate:1000:0:0
-commit
-drain
-commit
-drain
-compositor
-tick 0
-pull
-activate
-tick 16667
-tick 33334
-tick 50001
-word MMMCMMMCMMCCCC
-end
-";
 
 // Lines of the script made from 8, by their numbers.
 const OF_EIGHT: [(usize, &str); 15] = [
@@ -60,7 +36,7 @@ const OF_EIGHT: [(usize, &str); 15] = [
 #[test]
 fn the_script_of_one_element_is_printed(rt: HostRuntime) -> Result<(), Fail> {
     let text = print_script(rt.alloc(), &generate(rt.alloc(), 1)?)?;
-    assert!(rt; text.as_slice() == OF_ONE.as_bytes());
+    assert!(rt; text.as_slice() == REVERSED.as_bytes());
     Ok(())
 }
 

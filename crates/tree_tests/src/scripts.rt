@@ -211,8 +211,8 @@ word MMCCMMCC
 end
 ";
 
-/// A fade back and a slide in four jumps.
-const REVERSED: &str = "anim 1
+/// A fade back and a slide in four jumps: the script that is made from 1.
+pub(crate) const REVERSED: &str = "anim 1
 main
 timeline 1 0
 element 1 1000000 translate:0:0:0

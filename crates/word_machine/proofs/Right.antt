@@ -1,7 +1,7 @@
 -- What is right in every run with its journal: the entries count what the lanes have made.
 use Rattle.std.proofs.Common.{◌≡◌, ℕ, ◌+◌, ◌-◌, ◌≤◌, nat_lt, Bool, true, false, ◌&&◌, cond, Option, Some, None, List, [], ◌∷◌, ◌++◌, length, map, fold, refl, sym, ap, ◌∙◌, arith}
 use Rattle.std.specs.Prelude.{is_none}
-use Rattle.std.proofs.lemmas.List.{length-append, length-map, length-drop}
+use Rattle.std.proofs.lemmas.List.{append-nil, length-append, length-map, length-drop}
 use Rattle.std.proofs.lemmas.List.Sums.{fold-append, sum_by-append}
 use Rattle.anim_names.specs.declared.entry.Entry.{Entry}
 use Rattle.anim_names.specs.declared.entry.EntryKind.TheVariants as kind
@@ -68,30 +68,27 @@ pub unheard-length : (marks : List Mark) (lane : MainLane) → length (unheard_e
 unheard-length marks lane =
     length-drop (length lane.heard) (map event_of marks) ∙ ap (λ n. n - length lane.heard) (length-map marks event_of)
 
+-- a step that notes nothing, and makes neither commits nor marks
+still : (course later : Course) → later.entries ≡ course.entries ++ [] → later.lanes.main.commits ≡ course.lanes.main.commits → later.lanes.compositor.pulled ≡ course.lanes.compositor.pulled → length later.lanes.compositor.marks ≡ length course.lanes.compositor.marks → later.lanes.main.heard ≡ course.lanes.main.heard → course.main_made ≤ later.main_made → course.compositor_made ≤ later.compositor_made → IsRight course → IsRight later
+still course later entries commits pulled marks heard main_made compositor_made h =
+    let same : later.entries ≡ course.entries = entries ∙ append-nil course.entries in
+    record {
+      published = ap published same ∙ h.published ∙ ap length (sym commits);
+      newest = ap (λ c. (newest_commit c).number) commits ∙ h.newest ∙ ap length (sym commits);
+      pulled = ap last_pulled same ∙ h.pulled ∙ sym pulled;
+      within = omega (arith, h.within, pulled, ap length commits);
+      sent = ap sent same ∙ h.sent ∙ sym marks;
+      drained = ap drained same ∙ h.drained ∙ ap length (sym heard);
+      heard = omega (arith, h.heard, marks, ap length heard);
+      main_upto = omega (arith, ap (last_upto Main) same, h.main_upto, main_made);
+      compositor_upto = omega (arith, ap (last_upto Compositor) same, h.compositor_upto, compositor_made);
+    }
+
 right-main : (course : Course) (left : List StepOfMain) → IsRight course → IsRight (next_main course left)
 unfolding after_drain
-right-main course [] h = record {
-  published = published-append course.entries [] ∙ omega (arith, h.published);
-  newest = h.newest;
-  pulled = pulled-append course.entries [] ∙ h.pulled;
-  within = h.within;
-  sent = sent-append course.entries [] ∙ omega (arith, h.sent);
-  drained = drained-append course.entries [] ∙ omega (arith, h.drained);
-  heard = h.heard;
-  main_upto = omega (arith, upto-append Main course.entries [], h.main_upto);
-  compositor_upto = omega (arith, upto-append Compositor course.entries [], h.compositor_upto);
-}
-right-main course (EditStep change ∷ left) h = record {
-  published = published-append course.entries [] ∙ omega (arith, h.published);
-  newest = h.newest;
-  pulled = pulled-append course.entries [] ∙ h.pulled;
-  within = h.within;
-  sent = sent-append course.entries [] ∙ omega (arith, h.sent);
-  drained = drained-append course.entries [] ∙ omega (arith, h.drained);
-  heard = h.heard;
-  main_upto = omega (arith, upto-append Main course.entries [], h.main_upto);
-  compositor_upto = omega (arith, upto-append Compositor course.entries [], h.compositor_upto);
-}
+right-main course [] h = still course (next_main course []) refl refl refl refl refl (omega arith) (omega arith) h
+right-main course (EditStep change ∷ left) h =
+    still course (next_main course (EditStep change ∷ left)) refl refl refl refl refl (omega arith) (omega arith) h
 right-main course (CommitStep ∷ left) h =
     let commits = course.lanes.main.commits in
     let new = next_commit (length commits) course.lanes.main.tree in
@@ -145,17 +142,8 @@ with_marks course lane new = record course {
 }
 
 right-marks : (course : Course) (lane : CompositorLane) (new : List Mark) → lane.pulled ≡ course.lanes.compositor.pulled → length lane.marks ≡ length course.lanes.compositor.marks + length new → IsRight course → IsRight (with_marks course lane new)
-right-marks course lane [] same longer h = record {
-  published = published-append course.entries [] ∙ omega (arith, h.published);
-  newest = h.newest;
-  pulled = pulled-append course.entries [] ∙ h.pulled ∙ sym same;
-  within = omega (arith, h.within, same);
-  sent = omega (arith, sent-append course.entries [], h.sent, longer);
-  drained = drained-append course.entries [] ∙ omega (arith, h.drained);
-  heard = omega (arith, h.heard, longer);
-  main_upto = omega (arith, upto-append Main course.entries [], h.main_upto);
-  compositor_upto = omega (arith, upto-append Compositor course.entries [], h.compositor_upto);
-}
+right-marks course lane [] same longer h =
+    still course (with_marks course lane []) refl refl same (omega (arith, longer)) refl (omega arith) (omega arith) h
 right-marks course lane (mark ∷ new) same longer h =
     let more = entries_with Compositor (course.compositor_made + 1) (sending (mark ∷ new)) in
     let sent_more : sent (course.entries ++ more) ≡ sent course.entries + (0 + length (mark ∷ new)) = sent-append course.entries more in
@@ -219,17 +207,7 @@ right-activation course left (Some pending) h =
     right-marks course (after_activation (Some pending) (record lane { left = left })) new refl (length-append lane.marks new) h
 
 right-compositor : (course : Course) (left : List CompositorStep) → IsRight course → IsRight (next_compositor course left)
-right-compositor course [] h = record {
-  published = published-append course.entries [] ∙ omega (arith, h.published);
-  newest = h.newest;
-  pulled = pulled-append course.entries [] ∙ h.pulled;
-  within = h.within;
-  sent = sent-append course.entries [] ∙ omega (arith, h.sent);
-  drained = drained-append course.entries [] ∙ omega (arith, h.drained);
-  heard = h.heard;
-  main_upto = omega (arith, upto-append Main course.entries [], h.main_upto);
-  compositor_upto = omega (arith, upto-append Compositor course.entries [], h.compositor_upto);
-}
+right-compositor course [] h = still course (next_compositor course []) refl refl refl refl refl (omega arith) (omega arith) h
 right-compositor course (Pull ∷ left) h =
     let lane = course.lanes.compositor in
     right-pull course (record lane { left = left }) (is_none lane.pending && nat_lt lane.pulled (newest_commit course.lanes.main.commits).number) refl refl h
