@@ -9,10 +9,14 @@ use Rattle.run_laws.specs.Groups.{FinishesTogether, OneBlocker, StartsTogether, 
 use Rattle.run_laws.specs.Hearing.{CountsAddUp, HeardOnce}
 use Rattle.run_laws.specs.Shown.{AllShowActivated, CommitNumbersNeverFall, SkippedIsSilent, lanes_at}
 
--- the law holds of each step of the word, over the state before the step
+-- The law is true of each step of the word, over the state before the step.
 abbrev pub AtEachStep : (Lanes → Lane → Type 0) → ScriptLists → List Lane → Type 0
 AtEachStep Law script word =
     (front : List Lane) (letter : Lane) → BeginsWith word (front ++ letter ∷ []) → Law (lanes_at script front) letter
+
+-- The law is true at each moment of the word.
+abbrev pub AtEachMoment : (Lanes → Type 0) → ScriptLists → List Lane → Type 0
+AtEachMoment Law script word = (front : List Lane) → BeginsWith word front → Law (lanes_at script front)
 
 -- What the run of a script keeps, in the order of a word.
 -- Frames: the commit numbers never fall, each frame shows commit 0 or one that was committed, pulled and activated
@@ -27,7 +31,7 @@ pub record KeepsLaws (script : ScriptLists) (word : List Lane) : Type 0 where
   pub start_together : AtEachStep StartsTogether script word
   pub targets : AtEachStep TargetsPresent script word
   pub finish_together : AtEachStep FinishesTogether script word
-  pub one_blocker : OneBlocker (lanes_at script word).compositor.marks
+  pub one_blocker : AtEachMoment (λ lanes. OneBlocker lanes.compositor.marks) script word
   pub ends_once : EndsOnce (lanes_at script word).compositor.marks
   pub aborted : AtEachStep AbortedWasActive script word
   pub heard : HeardOnce script word
