@@ -1,49 +1,52 @@
--- A first commit of one model at most follows the empty one, and there is room for its model.
-use Rattle.std.proofs.Common.{◌≡◌, ℕ, ◌≤◌, ◌==◌, ◌||◌, Bool, true, false, List, [], ◌∷◌, length, refl, sym, ap, ◌∙◌, subst, ◌⊎◌, inl, inr, arith}
+-- A first commit whose groups agree follows the empty one, and there is room for its models.
+use Rattle.std.proofs.Common.{◌≡◌, ℕ, suc, ◌≤◌, ◌==◌, ◌||◌, Bool, true, false, List, [], ◌∷◌, length, map, refl, sym, ap, subst, inl, inr, arith}
 use Rattle.std.specs.Prelude.{IsTrue}
 use Rattle.std.specs.List.{list_any}
-use Rattle.std.proofs.lemmas.Bool.{eqb-true, false≢true}
+use Rattle.std.proofs.lemmas.Bool.{false≢true}
 use Rattle.keyframe_model.specs.Models.{Spec}
 use Rattle.tree_commit.specs.declared.runs.mark.Mark.{Mark}
+use Rattle.tree_commit.specs.Edits.{is_in}
 use Rattle.tree_commit.specs.Trees.{Committed, TreeLists, empty_commit, empty_tree, has_model}
-use Rattle.tree_commit.specs.Follows.{AgreeAsGroup, AreDistinct, Follows, IsAmong, IsKnown, has_mark}
+use Rattle.tree_commit.specs.Follows.{Follows, IsKnown, has_mark}
 use Rattle.anim_host.specs.Hosting.{HasRoomFor, Hosting}
+use Rattle.run_laws.proofs.AddedModels.{distinct_within}
+use Rattle.tree_tests.specs.Steps.{GroupsAgree}
 
-only : (models : List Spec) (one other : Spec) → length models ≤ 1 → IsAmong one models → IsAmong other models → one ≡ other
-only [] one other few a b = absurd a
-only (model ∷ []) one other few (inl a) (inl b) = a ∙ sym b
-only (model ∷ []) one other few (inl a) (inr b) = absurd b
-only (model ∷ []) one other few (inr a) b = absurd a
-only (model ∷ more ∷ models) one other few a b = absurd (omega arith)
-
-agree-itself : (model : Spec) → AgreeAsGroup model model
-agree-itself model = record { element = refl; timeline = refl; start = refl; property = λ same. refl }
-
-follows-empty : (tree : TreeLists) → length tree.models ≤ 1 → Follows empty_tree tree []
-follows-empty tree few = record {
+follows-empty : (tree : TreeLists) → GroupsAgree tree → Follows empty_tree tree []
+follows-empty tree agree = record {
   one_model = λ model twin there other same. absurd there;
   marked = λ model there has. absurd (false≢true has);
   group_there = λ model there has. absurd (false≢true has);
   group_started = λ model there has. absurd (false≢true has);
-  groups_agree = λ model mate one other same. subst (λ (m : Spec). AgreeAsGroup model m) (only tree.models model mate few one other) (agree-itself model);
+  groups_agree = agree;
   timelines = λ id there. absurd (false≢true there);
 }
 
-pub follows-first : (host : Hosting) (tree : TreeLists) → host.active ≡ empty_commit → host.marks ≡ [] → length tree.models ≤ 1
+pub follows-first : (host : Hosting) (tree : TreeLists) → host.active ≡ empty_commit → host.marks ≡ [] → GroupsAgree tree
     → Follows host.active.tree tree host.marks
-follows-first host tree active marks few =
+follows-first host tree active marks agree =
     subst (λ (a : Committed). Follows a.tree tree host.marks) (sym active)
-    (subst (λ (m : List Mark). Follows empty_tree tree m) (sym marks) (follows-empty tree few))
+    (subst (λ (m : List Mark). Follows empty_tree tree m) (sym marks) (follows-empty tree agree))
 
-one-id : (models : List Spec) (one other : ℕ) → length models ≤ 1
-    → list_any (λ (m : Spec). one == m.id) models ≡ true → list_any (λ (m : Spec). other == m.id) models ≡ true → one ≡ other
-one-id [] one other few a b = absurd (false≢true a)
-one-id (model ∷ []) one other few a b = eqb-true one model.id (left (one == model.id) a) ∙ sym (eqb-true other model.id (left (other == model.id) b))
+-- the ids of models
+pub ids_of : List Spec → List ℕ
+ids_of models = map (λ model. model.id) models
+
+pub ids-length : (models : List Spec) → length (ids_of models) ≡ length models
+unfolding ids_of
+ids-length [] = refl
+ids-length (model ∷ models) = ap suc (ids-length models)
+
+pub ids-have : (models : List Spec) (id : ℕ) → list_any (λ (m : Spec). id == m.id) models ≡ true → is_in id (ids_of models) ≡ true
+unfolding ids_of
+ids-have [] id h = h
+ids-have (model ∷ models) id h = go (id == model.id) h (ids-have models id)
   where
-    left : (b : Bool) → (b || false) ≡ true → b ≡ true
-    left true is = refl
-    left false is = is
-one-id (model ∷ more ∷ models) one other few a b = absurd (omega arith)
+    go : (here : Bool) → (here || list_any (λ (m : Spec). id == m.id) models) ≡ true
+        → (list_any (λ (m : Spec). id == m.id) models ≡ true → is_in id (map (λ (m : Spec). m.id) models) ≡ true)
+        → (here || is_in id (map (λ (m : Spec). m.id) models)) ≡ true
+    go true h rest = refl
+    go false h rest = rest h
 
 known-there : (host : Hosting) (commit : Committed) (id : ℕ) → host.active ≡ empty_commit → host.marks ≡ []
     → IsKnown host.active.tree commit.tree host.marks id → has_model commit.tree id ≡ true
@@ -53,11 +56,9 @@ known-there host commit id active marks (inr (inl there)) =
     absurd (false≢true (subst (λ (a : Committed). IsTrue (has_model a.tree id)) active there))
 known-there host commit id active marks (inr (inr there)) = there
 
-pub room-first : (host : Hosting) (commit : Committed) → host.active ≡ empty_commit → host.marks ≡ [] → 1 ≤ host.models
-    → length commit.tree.models ≤ 1 → HasRoomFor host commit
-room-first host commit active marks room few [] distinct known = omega arith
-room-first host commit active marks room few (id ∷ []) distinct known = omega (arith, room)
-room-first host commit active marks room few (id ∷ other ∷ ids) distinct known =
-    absurd (distinct.0 (inl (one-id commit.tree.models id other few
-    (known-there host commit id active marks (known id (inl refl)))
-    (known-there host commit other active marks (known other (inr (inl refl)))))))
+pub room-first : (host : Hosting) (commit : Committed) → host.active ≡ empty_commit → host.marks ≡ []
+    → length commit.tree.models ≤ host.models → HasRoomFor host commit
+room-first host commit active marks room ids distinct known =
+    let few = distinct_within ids (ids_of commit.tree.models) distinct
+    (λ id among. ids-have commit.tree.models id (known-there host commit id active marks (known id among))) in
+    omega (arith, few, ids-length commit.tree.models, room)

@@ -1,1 +1,2 @@
 pub mod FirstCommits
+pub mod Places

@@ -1,9 +1,10 @@
 //! The compositor's host, over commits of main's tree: tick, step, expect.
 
-ghost use Rattle.std.specs.Prelude.{◌≡◌, ◌≤◌, [], None, Some, IfOk, OnOk, length};
+ghost use Rattle.std.specs.Prelude.{◌≡◌, ◌≤◌, [], None, OnOk};
 ghost use Rattle.tree_commit.specs.Trees.{empty_commit};
 
 use crate::samples::{self, Names};
+use crate::steps::push_first;
 use anim_host::AnimHost;
 use anim_names::limit::MOST_COMMITS;
 use anim_names::{AnimEvent, GroupId, ModelId, Property};
@@ -45,7 +46,7 @@ fn fill(
 
 // ---- steps
 
-// Pulls and activates the host's first commit, of one model at most.
+// Pulls and activates the host's first commit.
 fn begin(
     rt: &impl Abort,
     alloc: Global,
@@ -60,21 +61,9 @@ fn begin(
 {
     let nothing = Commit::empty(alloc)?;
     assert!(rt; commit.model_count() <= 1);
-    push_first(host, commit)?;
+    push_first(rt, host, commit)?;
     host.activate(&nothing, commit);
     Ok(())
-}
-
-fn push_first(host: &mut AnimHost, commit: &Arc<Commit>) -> Result<(), AllocError>
-    requires active { host.old.active ≡ empty_commit }
-    requires pending { host.old.pending ≡ None }
-    requires marks { host.old.marks ≡ [] }
-    requires models { 1 ≤ host.old.models }
-    requires few { length commit.now.value.tree.models ≤ 1 }
-    ensures active { host.new.active ≡ host.old.active }
-    ensures pending { OnOk result (host.new.pending ≡ Some commit.now.value) }
-{
-    host.push_commit(commit)
 }
 
 fn tick(rt: &impl Abort, host: &mut AnimHost, commit: &Commit, time: u64) -> Result<(), AllocError>

@@ -14,6 +14,8 @@ mod commits;
 #[cfg(test)]
 mod edits;
 #[cfg(test)]
+mod frames;
+#[cfg(test)]
 mod generated;
 #[cfg(test)]
 mod hearing;
@@ -23,5 +25,7 @@ mod host;
 mod samples;
 #[cfg(test)]
 mod scripts;
+#[cfg(test)]
+mod steps;
 #[cfg(test)]
 mod trees;
