@@ -18,12 +18,12 @@ use Rattle.tree_commit.specs.Marks.{event_of}
 use Rattle.tree_commit.specs.Scripts.{StepOfMain, EditStep, CommitStep, DrainStep, ScriptLists, IsWellFormed, are_allowed, book_after_step}
 use Rattle.tree_commit.specs.Runs.{CompositorLane, Lanes, MainLane, ReportLists, after_activation, after_drain, after_tick, closing_report, compositor_step, main_step, newest_commit, report_of, unheard_events, with_pending}
 use Rattle.word_machine.specs.Courses.{Course, board_of, compositor_of, course_after, course_of, in_mailbox, main_of, marks_of_pending, marks_of_step, opening}
-use Rattle.word_machine.specs.Moments.{HasRoom, IsAt, IsUnderWay, MayReplay, model_count}
+use Rattle.word_machine.specs.Moments.{HasRoom, IsAt, IsUnderWay, MayReplay, TicksAreLeft, model_count}
 use Rattle.word_machine.specs.Turns.{AllowsStep, MayMakeCompositor, MayMakeMain, MayPlace, MaySend, board_after_compositor, board_after_main, compositor_turned, counts_with, frames_with, main_turned}
 use Rattle.word_machine.proofs.CompositorTurns.{HasNew, activated-lane, activated-marks, activated-sent, board-turned_compositor, compositor-turned, event_room_after, frames-turned, last_tick_after, later-taken, mailbox-newer, news-of_side, nothing-taken, room_after_compositor, room_with, takes, ticked-lane}
 use Rattle.word_machine.proofs.MainTurns.{board-turned_main, counts-turned, main-turned, may_make_main, room_after_main, same_board}
 use Rattle.word_machine.proofs.Right.{IsRight, course-append, course_is_right, lanes_of_course, next_compositor, next_main, unheard-length}
-use Rattle.word_machine.proofs.UnderWay.{IsBounded, bounded, bounded-next, compositor-left_next, compositor_under_way, first-allowed, compositor-rests, locals-fit, main-rests, main_under_way, next_tick, opening_under_way}
+use Rattle.word_machine.proofs.UnderWay.{IsBounded, bounded, bounded-next, compositor-left_next, compositor_under_way, first-allowed, compositor-rests, locals-fit, main-rests, main_under_way, next_tick, opening_under_way, ticks_left}
 
 -- ---- a step of main
 
@@ -108,7 +108,7 @@ main-next script word main later compositor board after counts more frames step 
 -- ---- a step of the compositor
 
 -- the marks after a step of the compositor: those before it, and new ones
-new-marks : (course : Course) (step : CompositorStep) (left : List CompositorStep) → length (next_compositor course (step ∷ left)).lanes.compositor.marks ≡ length course.lanes.compositor.marks + length (marks_of_step step course.lanes.compositor)
+pub new-marks : (course : Course) (step : CompositorStep) (left : List CompositorStep) → length (next_compositor course (step ∷ left)).lanes.compositor.marks ≡ length course.lanes.compositor.marks + length (marks_of_step step course.lanes.compositor)
 new-marks course Pull left = go (takes course.lanes.compositor.pending course.lanes.compositor.pulled (newest_commit course.lanes.main.commits))
   where
     go : (taken : Bool) → length (cond taken (with_pending (newest_commit course.lanes.main.commits) (record course.lanes.compositor { left = left })) (record course.lanes.compositor { left = left })).marks ≡ length course.lanes.compositor.marks + 0
@@ -140,8 +140,8 @@ may-place script course left last_tick models true is some bound room =
     }
 
 -- what the step asks beside room and completeness
-allows-next : (script : ScriptLists) (course : Course) (step : CompositorStep) (left : List CompositorStep) (book : Book) (last_tick models room event_room : ℕ) → IsRight course → course.lanes.compositor.left ≡ step ∷ left → IsUnderWay script course book last_tick → IsBounded script (next_compositor course (step ∷ left)).lanes → 2 * model_count script ≤ event_room + length course.lanes.compositor.marks → model_count script ≤ models → AllowsStep step (compositor_of course last_tick models) (board_of course room event_room)
-allows-next script course Pull left book last_tick models room event_room right is way bound rooms known =
+allows-next : (script : ScriptLists) (course : Course) (step : CompositorStep) (left : List CompositorStep) (last_tick models room event_room : ℕ) → IsRight course → TicksAreLeft script (step ∷ left) last_tick → IsBounded script (next_compositor course (step ∷ left)).lanes → 2 * model_count script ≤ event_room + length course.lanes.compositor.marks → model_count script ≤ models → AllowsStep step (compositor_of course last_tick models) (board_of course room event_room)
+allows-next script course Pull left last_tick models room event_room right ticks bound rooms known =
     let pending = course.lanes.compositor.pending in
     let taken = takes pending course.lanes.compositor.pulled (newest_commit course.lanes.main.commits) in
     let nothing : finds_nothing course.entries (slot_of pending) ≡ not taken = nothing-taken course right pending taken refl in
@@ -152,16 +152,16 @@ allows-next script course Pull left book last_tick models room event_room right 
     not_not : (b : Bool) → not b ≡ false → b ≡ true
     not_not true e = refl
     not_not false e = cc
-allows-next script course Activate left book last_tick models room event_room right is way bound rooms known =
+allows-next script course Activate left last_tick models room event_room right ticks bound rooms known =
     let lane = course.lanes.compositor in
     let count = new-marks course Activate left in
     may-send script course (compositor_after_activation (compositor_of course last_tick models)) (after_activation lane.pending (record lane { left = left })) (marks_of_pending lane.pending lane) room event_room
     (activated-sent course last_tick models lane.pending) (activated-marks course left last_tick models lane.pending) (activated-lane lane.pending lane left)
     (omega (arith, count, bound.events.two_each)) (omega (arith, count, bound.events.fit)) rooms
-allows-next script course (Tick time) left book last_tick models room event_room right is way bound rooms known =
+allows-next script course (Tick time) left last_tick models room event_room right ticks bound rooms known =
     let lane = course.lanes.compositor in
     let count = new-marks course (Tick time) left in
-    let next = next_tick script course time left book last_tick is way in (
+    let next = next_tick script time left last_tick ticks in (
       record {
         later = next.later;
         in_time = next.in_time;
@@ -172,10 +172,10 @@ allows-next script course (Tick time) left book last_tick models room event_room
           (omega (arith, count, bound.events.two_each)) (omega (arith, count, bound.events.fit)) rooms,
     )
 
-allows-after : (script : ScriptLists) (course : Course) (step : CompositorStep) (left : List CompositorStep) (book : Book) (last_tick models room event_room : ℕ) → IsRight course → course.lanes.compositor.left ≡ step ∷ left → IsUnderWay script course book last_tick → IsBounded script (course_after course Compositor).lanes → 2 * model_count script ≤ event_room + length course.lanes.compositor.marks → model_count script ≤ models → AllowsStep step (compositor_of course last_tick models) (board_of course room event_room)
+pub allows-after : (script : ScriptLists) (course : Course) (step : CompositorStep) (left : List CompositorStep) (last_tick models room event_room : ℕ) → IsRight course → course.lanes.compositor.left ≡ step ∷ left → TicksAreLeft script (step ∷ left) last_tick → IsBounded script (course_after course Compositor).lanes → 2 * model_count script ≤ event_room + length course.lanes.compositor.marks → model_count script ≤ models → AllowsStep step (compositor_of course last_tick models) (board_of course room event_room)
 unfolding compositor_step
-allows-after script course step left book last_tick models room event_room right is way bound rooms known =
-    allows-next script course step left book last_tick models room event_room right is way
+allows-after script course step left last_tick models room event_room right is ticks bound rooms known =
+    allows-next script course step left last_tick models room event_room right ticks
     (subst (λ (steps : List CompositorStep). IsBounded script (next_compositor course steps).lanes) is bound) rooms known
 
 -- The compositor may make its next step.
@@ -191,23 +191,24 @@ compositor-may script well word main compositor board counts frames step left at
       steps = omega (arith, way.compositor_steps, one_left, well.compositor_steps);
       room = omega (arith, at.rooms.for_entries, one_left);
       later = right.compositor_upto;
-      allows = allows-after script course step left main.book compositor.last_tick compositor.models board.room board.queue.room right is way
+      allows = allows-after script course step left compositor.last_tick compositor.models board.room board.queue.room right is
+          (ticks_left script course (step ∷ left) main.book compositor.last_tick is way)
           (bounded-next script well word Compositor) at.rooms.for_events at.rooms.for_models;
     } in
     subst (λ (b : Exchange). MayMakeCompositor step compositor b) (sym at.of_board)
     (subst (λ (c : CompositorState). MayMakeCompositor step c (board_of course board.room board.queue.room)) (sym at.of_compositor) may)
 
 -- the rooms after a step of the compositor
-with-room : (new : List Mark) (room left : ℕ) → left + 1 ≤ room → left ≤ room_with new room
+pub with-room : (new : List Mark) (room left : ℕ) → left + 1 ≤ room → left ≤ room_with new room
 with-room [] room left h = omega (arith, h)
 with-room (mark ∷ new) room left h = omega (arith, h)
 
-room-left : (step : CompositorStep) (lane : CompositorLane) (room left : ℕ) → left + 1 ≤ room → left ≤ room_after_compositor step lane room
+pub room-left : (step : CompositorStep) (lane : CompositorLane) (room left : ℕ) → left + 1 ≤ room → left ≤ room_after_compositor step lane room
 room-left Pull lane room left h = omega (arith, h)
 room-left Activate lane room left h = with-room (marks_of_step Activate lane) room left h
 room-left (Tick time) lane room left h = with-room (marks_of_step (Tick time) lane) room left h
 
-events-left : (step : CompositorStep) (lane : CompositorLane) (event_room marks after most : ℕ) → after ≡ marks + length (marks_of_step step lane) → most ≤ event_room + marks → most ≤ event_room_after step lane event_room + after
+pub events-left : (step : CompositorStep) (lane : CompositorLane) (event_room marks after most : ℕ) → after ≡ marks + length (marks_of_step step lane) → most ≤ event_room + marks → most ≤ event_room_after step lane event_room + after
 events-left Pull lane event_room marks after most is h = omega (arith, is, h)
 events-left Activate lane event_room marks after most is h = omega (arith, is, h)
 events-left (Tick time) lane event_room marks after most is h = omega (arith, is, h)

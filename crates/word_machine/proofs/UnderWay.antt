@@ -26,7 +26,7 @@ use Rattle.tree_commit.specs.Marks.{is_aborted, start_of}
 use Rattle.tree_commit.specs.Scripts.{StepOfMain, EditStep, CommitStep, DrainStep, ScriptLists, IsWellFormed, are_allowed, are_at_most, book_after_step, is_allowed, never_fall_from, ticks_of}
 use Rattle.tree_commit.specs.Runs.{Lanes, after_activation, after_drain, compositor_step, main_step, newest_commit, with_pending}
 use Rattle.word_machine.specs.Courses.{Course, course_after, course_of, opening}
-use Rattle.word_machine.specs.Moments.{IsUnderWay, model_count}
+use Rattle.word_machine.specs.Moments.{IsUnderWay, TicksAreLeft, model_count}
 use Rattle.word_machine.proofs.CompositorTurns.{last_tick_after, takes}
 use Rattle.word_machine.proofs.Right.{course-append, lanes_of_course, next_compositor, next_main}
 
@@ -105,29 +105,24 @@ compositor-left_next course Activate left = go course.lanes.compositor.pending
     go (Some pending) = refl
 compositor-left_next course (Tick time) left = refl
 
--- what the first step that is left says of the times, and what is left then
-record TicksGoOn (script : ScriptLists) (step : CompositorStep) (left : List CompositorStep) (last_tick : ℕ) : Type 0 where
-  order : never_fall_from (last_tick_after step last_tick) (ticks_of left) ≡ true
-  times : are_at_most LAST_TIME (ticks_of left) ≡ true
-  ticks : (tick : ℕ) → IsAmong tick (ticks_of left) → IsAmong tick (ticks_of script.compositor)
-
-ticks_go_on : (script : ScriptLists) (step : CompositorStep) (left : List CompositorStep) (last_tick : ℕ) → never_fall_from last_tick (ticks_of (step ∷ left)) ≡ true → are_at_most LAST_TIME (ticks_of (step ∷ left)) ≡ true → ((tick : ℕ) → IsAmong tick (ticks_of (step ∷ left)) → IsAmong tick (ticks_of script.compositor)) → TicksGoOn script step left last_tick
-ticks_go_on script Pull left last_tick order times ticks = record { order = order; times = times; ticks = ticks }
-ticks_go_on script Activate left last_tick order times ticks = record { order = order; times = times; ticks = ticks }
-ticks_go_on script (Tick time) left last_tick order times ticks = record {
-  order = (and_parts (nat_le last_tick time) (never_fall_from time (ticks_of left)) order).1;
-  times = (and_parts (nat_le time LAST_TIME) (are_at_most LAST_TIME (ticks_of left)) times).1;
-  ticks = λ tick h. ticks tick (inr h);
+pub ticks_go_on : (script : ScriptLists) (step : CompositorStep) (left : List CompositorStep) (last_tick : ℕ) → TicksAreLeft script (step ∷ left) last_tick → TicksAreLeft script left (last_tick_after step last_tick)
+ticks_go_on script Pull left last_tick h = record { order = h.order; times = h.times; ticks = h.ticks }
+ticks_go_on script Activate left last_tick h = record { order = h.order; times = h.times; ticks = h.ticks }
+ticks_go_on script (Tick time) left last_tick h = record {
+  order = (and_parts (nat_le last_tick time) (never_fall_from time (ticks_of left)) h.order).1;
+  times = (and_parts (nat_le time LAST_TIME) (are_at_most LAST_TIME (ticks_of left)) h.times).1;
+  ticks = λ tick is. h.ticks tick (inr is);
 }
+
+pub ticks_left : (script : ScriptLists) (course : Course) (left : List CompositorStep) (book : Book) (last_tick : ℕ) → course.lanes.compositor.left ≡ left → IsUnderWay script course book last_tick → TicksAreLeft script left last_tick
+ticks_left script course left book last_tick is h =
+    subst (λ (steps : List CompositorStep). TicksAreLeft script steps last_tick) is (record { order = h.order; times = h.times; ticks = h.ticks })
 
 compositor-way : (script : ScriptLists) (course : Course) (step : CompositorStep) (left : List CompositorStep) (book : Book) (last_tick : ℕ) → course.lanes.compositor.left ≡ step ∷ left → IsUnderWay script course book last_tick → IsUnderWay script (next_compositor course (step ∷ left)) book (last_tick_after step last_tick)
 compositor-way script course step left book last_tick is h =
     let next : (next_compositor course (step ∷ left)).lanes.compositor.left ≡ left = compositor-left_next course step left in
     let length_is : length course.lanes.compositor.left ≡ length left + 1 = ap length is ∙ omega arith in
-    let go_on = ticks_go_on script step left last_tick
-    (ap (λ steps. never_fall_from last_tick (ticks_of steps)) (sym is) ∙ h.order)
-    (ap (λ steps. are_at_most LAST_TIME (ticks_of steps)) (sym is) ∙ h.times)
-    (subst (λ (steps : List CompositorStep). (tick : ℕ) → IsAmong tick (ticks_of steps) → IsAmong tick (ticks_of script.compositor)) is h.ticks) in
+    let go_on = ticks_go_on script step left last_tick (ticks_left script course (step ∷ left) book last_tick is h) in
     record {
       counted = h.counted;
       allowed = h.allowed;
@@ -149,11 +144,11 @@ pub record IsNextTick (script : ScriptLists) (last_tick time : ℕ) : Type 0 whe
   pub in_time : time ≤ LAST_TIME
   pub among : IsAmong time (ticks_of script.compositor)
 
-pub next_tick : (script : ScriptLists) (course : Course) (time : ℕ) (left : List CompositorStep) (book : Book) (last_tick : ℕ) → course.lanes.compositor.left ≡ Tick time ∷ left → IsUnderWay script course book last_tick → IsNextTick script last_tick time
-next_tick script course time left book last_tick is h = record {
-  later = leb-true last_tick time (and_parts (nat_le last_tick time) (never_fall_from time (ticks_of left)) (ap (λ steps. never_fall_from last_tick (ticks_of steps)) (sym is) ∙ h.order)).0;
-  in_time = leb-true time LAST_TIME (and_parts (nat_le time LAST_TIME) (are_at_most LAST_TIME (ticks_of left)) (ap (λ steps. are_at_most LAST_TIME (ticks_of steps)) (sym is) ∙ h.times)).0;
-  among = h.ticks time (subst (λ (steps : List CompositorStep). IsAmong time (ticks_of steps)) (sym is) (inl refl));
+pub next_tick : (script : ScriptLists) (time : ℕ) (left : List CompositorStep) (last_tick : ℕ) → TicksAreLeft script (Tick time ∷ left) last_tick → IsNextTick script last_tick time
+next_tick script time left last_tick h = record {
+  later = leb-true last_tick time (and_parts (nat_le last_tick time) (never_fall_from time (ticks_of left)) h.order).0;
+  in_time = leb-true time LAST_TIME (and_parts (nat_le time LAST_TIME) (are_at_most LAST_TIME (ticks_of left)) h.times).0;
+  among = h.ticks time (inl refl);
 }
 
 -- ---- lanes that have no step left

@@ -4,6 +4,7 @@ use Rattle.anim_names.specs.declared.lane.Lane.{Lane}
 use Rattle.anim_timeline.specs.declared.TheConstants.{LAST_TIME}
 use Rattle.frame_exchange.specs.Journals.{Exchange}
 use Rattle.frame_exchange.specs.Sides.{CompositorState, MainState, new_compositor, new_main}
+use Rattle.tree_commit.specs.declared.runs.compositor_step.CompositorStep.{CompositorStep}
 use Rattle.tree_commit.specs.Edits.{Book}
 use Rattle.tree_commit.specs.Follows.{IsAmong}
 use Rattle.tree_commit.specs.Frames.{DrawnFrame}
@@ -35,6 +36,12 @@ pub record IsUnderWay (script : ScriptLists) (course : Course) (book : Book) (la
   pub order : never_fall_from last_tick (ticks_of course.lanes.compositor.left) ≡ true
   pub times : are_at_most LAST_TIME (ticks_of course.lanes.compositor.left) ≡ true
   pub ticks : (tick : ℕ) → IsAmong tick (ticks_of course.lanes.compositor.left) → IsAmong tick (ticks_of script.compositor)
+
+-- The ticks of these steps never fall from this time on, are in time, and are the script's.
+pub record TicksAreLeft (script : ScriptLists) (left : List CompositorStep) (last_tick : ℕ) : Type 0 where
+  pub order : never_fall_from last_tick (ticks_of left) ≡ true
+  pub times : are_at_most LAST_TIME (ticks_of left) ≡ true
+  pub ticks : (tick : ℕ) → IsAmong tick (ticks_of left) → IsAmong tick (ticks_of script.compositor)
 
 -- There is room for what is left of a run.
 pub record HasRoom (script : ScriptLists) (course : Course) (batch_room models room event_room : ℕ) : Type 0 where

@@ -1,0 +1,2 @@
+//! Both lanes of a script at once, each in a thread of its own.
+#![tactic(auto)]
