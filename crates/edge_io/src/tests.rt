@@ -1,6 +1,8 @@
 ghost use Rattle.std.specs.Prelude.{◌≡◌, ◌<◌, ◌≤◌, length, Some, IfOk};
 ghost use Rattle.edge_io.specs.SteadySink.{told};
 
+mod gates;
+
 use super::*;
 use std::alloc::{AllocError, Global};
 use std::io;
@@ -255,4 +257,11 @@ fn sources_and_sinks_may_go_to_another_thread() {
     is_shared::<MemorySink>();
     is_shared::<SteadySink>();
     adapters_are_shared::<&[u8], Vec<u8>>();
+}
+
+#[test]
+fn two_lanes_share_a_gate() {
+    is_shared::<IdleGate>();
+    is_shared::<MeetGate>();
+    is_shared::<HoldGate>();
 }
