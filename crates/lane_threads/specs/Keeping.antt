@@ -3,7 +3,6 @@ use Rattle.std.specs.Prelude.{◌≡◌, ℕ, ◌+◌, ◌*◌, ◌≤◌, List,
 use Rattle.anim_names.specs.declared.lane.Lane.TheVariants.{Main, Compositor}
 use Rattle.anim_names.specs.Lanes.{letters_of}
 use Rattle.frame_exchange.specs.Journals.{Exchange, word_so_far}
-use Rattle.frame_exchange.specs.Words.{AreWithinSteps}
 use Rattle.tree_commit.specs.Scripts.{IsWellFormed, ScriptLists}
 use Rattle.word_machine.specs.Courses.{Course, board_of, course_of}
 use Rattle.word_machine.specs.Moments.{model_count}
@@ -13,19 +12,20 @@ pub record ScriptBoard : Type 0 where
   pub script : ScriptLists
   pub board : Exchange
 
--- the run of the script, as far as the board's journal tells of it
+-- the run of the script after the word of the board's journal so far
 abbrev pub course_at : ScriptBoard → Course
 course_at shared = course_of shared.script (word_so_far shared.board.entries)
 
 -- Whenever a lane gets the lock: the entries, the mailbox and the events are those of the run after the word of the
--- journal so far; each letter of that word is a step that its lane has; and there is room for all entries and events
--- that may still come.
+-- journal so far; each letter of that word is a step that its lane has made; and there is room for all entries and
+-- events that may still come.
 pub record IsKeptBehindLock (shared : ScriptBoard) : Type 0 where
   pub well : IsWellFormed shared.script
   pub of_board : shared.board ≡ board_of (course_at shared) shared.board.room shared.board.queue.room
-  pub within : AreWithinSteps (length shared.script.main) (length shared.script.compositor) shared.board.entries
   pub main_made : (course_at shared).main_made ≡ letters_of Main (word_so_far shared.board.entries)
   pub compositor_made : (course_at shared).compositor_made ≡ letters_of Compositor (word_so_far shared.board.entries)
+  pub main_within : (course_at shared).main_made ≤ length shared.script.main
+  pub compositor_within : (course_at shared).compositor_made ≤ length shared.script.compositor
   pub for_entries : length shared.script.main + length shared.script.compositor
       ≤ shared.board.room + (course_at shared).main_made + (course_at shared).compositor_made
   pub for_events : 2 * model_count shared.script ≤ shared.board.queue.room + length (course_at shared).lanes.compositor.marks

@@ -1,9 +1,7 @@
 -- What a lane knows of a run while the other lane goes on.
 use Rattle.std.specs.Prelude.{◌≡◌, ℕ, ◌+◌, ◌*◌, ◌≤◌, true, List, ◌∷◌, ◌++◌, drop, length, replicate}
-use Rattle.anim_names.specs.declared.entry.Entry.{Entry}
 use Rattle.anim_names.specs.declared.lane.Lane.{Lane}
 use Rattle.anim_names.specs.declared.lane.Lane.TheVariants.{Main, Compositor}
-use Rattle.anim_timeline.specs.declared.TheConstants.{LAST_TIME}
 use Rattle.commit_lock.specs.Journals.{entries_of}
 use Rattle.commit_lock.specs.Seats.{SeatState}
 use Rattle.frame_exchange.specs.Journals.{word_so_far}
@@ -11,11 +9,10 @@ use Rattle.frame_exchange.specs.Sides.{CompositorState, MainState, compositor_af
 use Rattle.frame_script.specs.Printing.{script_text}
 use Rattle.tree_commit.specs.declared.runs.compositor_step.CompositorStep.{CompositorStep}
 use Rattle.tree_commit.specs.declared.runs.compositor_step.CompositorStep.TheVariants.{Pull, Activate, Tick}
-use Rattle.tree_commit.specs.Follows.{IsAmong}
 use Rattle.tree_commit.specs.Frames.{DrawnFrame}
-use Rattle.tree_commit.specs.Scripts.{IsWellFormed, ScriptLists, StepOfMain, are_allowed, are_at_most, never_fall_from, ticks_of}
+use Rattle.tree_commit.specs.Scripts.{ScriptLists, StepOfMain, are_allowed}
 use Rattle.word_machine.specs.Courses.{board_of, compositor_of, course_of, main_of}
-use Rattle.word_machine.specs.Moments.{model_count}
+use Rattle.word_machine.specs.Moments.{TicksAreLeft, model_count}
 
 -- the word with this many more letters of the lane
 abbrev pub with_letters : Lane → ℕ → List Lane → List Lane
@@ -37,20 +34,23 @@ pub record IsSeatOf (script : ScriptLists) (lane : Lane) (seat : SeatState) : Ty
 abbrev pub IsNextOfMain : ScriptLists → ℕ → StepOfMain → Type 0
 IsNextOfMain script made step = drop made script.main ≡ step ∷ drop (made + 1) script.main
 
--- Main's side and its counts are those of the run after this word and so many more steps of main; and these steps left
--- the board as it was.
-pub record IsMainAhead (script : ScriptLists) (word : List Lane) (silent : ℕ) (main : MainState) (counts : List ℕ) : Type 0 where
-  pub of_main : main ≡ main_of (course_of script (with_letters Main silent word)) main.book main.room
-  pub of_counts : counts ≡ (course_of script (with_letters Main silent word)).lanes.main.counts
-  pub of_left : (course_of script (with_letters Main silent word)).lanes.main.left ≡ drop main.steps script.main
-  pub counted : main.book.commits ≡ length (course_of script (with_letters Main silent word)).lanes.main.commits
+-- Main's side and its counts are those of the run after this word.
+pub record IsMainAt (script : ScriptLists) (word : List Lane) (main : MainState) (counts : List ℕ) : Type 0 where
+  pub of_main : main ≡ main_of (course_of script word) main.book main.room
+  pub of_counts : counts ≡ (course_of script word).lanes.main.counts
+  pub of_left : (course_of script word).lanes.main.left ≡ drop main.steps script.main
+  pub counted : main.book.commits ≡ length (course_of script word).lanes.main.commits
   pub allowed : are_allowed main.book (drop main.steps script.main) ≡ true
+  pub batch_room : 2 * model_count script ≤ main.room
+
+-- Main is this many steps ahead of a word, and these steps left the board as it was.
+pub record IsMainAhead (script : ScriptLists) (word : List Lane) (silent : ℕ) (main : MainState) (counts : List ℕ) : Type 0 where
+  pub at : IsMainAt script (with_letters Main silent word) main counts
   pub made : (course_of script (with_letters Main silent word)).main_made ≡ (course_of script word).main_made + silent
   pub quiet : (room event_room : ℕ) → board_of (course_of script (with_letters Main silent word)) room event_room
       ≡ board_of (course_of script word) room event_room
-  pub batch_room : 2 * model_count script ≤ main.room
 
--- Main's side is so many steps ahead of what its seat has seen, however many steps the compositor has made meanwhile.
+-- Main is so many steps ahead of what its seat has seen, however many steps the compositor has made meanwhile.
 pub record KnowsMain (script : ScriptLists) (seat : SeatState) (main : MainState) (counts : List ℕ) : Type 0 where
   pub seat_is : IsSeatOf script Main seat
   pub silent : ℕ
@@ -62,21 +62,22 @@ pub record KnowsMain (script : ScriptLists) (seat : SeatState) (main : MainState
 abbrev pub IsNextOfCompositor : ScriptLists → ℕ → CompositorStep → Type 0
 IsNextOfCompositor script made step = drop made script.compositor ≡ step ∷ drop (made + 1) script.compositor
 
--- The compositor's side and its frames are those of the run after this word and so many more steps of the compositor;
--- and these steps left the board as it was.
+-- The compositor's side and its frames are those of the run after this word.
+pub record IsCompositorAt (script : ScriptLists) (word : List Lane) (compositor : CompositorState) (frames : List DrawnFrame) : Type 0 where
+  pub of_compositor : compositor ≡ compositor_of (course_of script word) compositor.last_tick compositor.models
+  pub of_frames : frames ≡ (course_of script word).lanes.compositor.frames
+  pub of_left : (course_of script word).lanes.compositor.left ≡ drop compositor.steps script.compositor
+  pub ticks : TicksAreLeft script (drop compositor.steps script.compositor) compositor.last_tick
+  pub models : model_count script ≤ compositor.models
+
+-- The compositor is this many steps ahead of a word, and these steps left the board as it was.
 pub record IsCompositorAhead (script : ScriptLists) (word : List Lane) (silent : ℕ) (compositor : CompositorState) (frames : List DrawnFrame) : Type 0 where
-  pub of_compositor : compositor ≡ compositor_of (course_of script (with_letters Compositor silent word)) compositor.last_tick compositor.models
-  pub of_frames : frames ≡ (course_of script (with_letters Compositor silent word)).lanes.compositor.frames
-  pub of_left : (course_of script (with_letters Compositor silent word)).lanes.compositor.left ≡ drop compositor.steps script.compositor
+  pub at : IsCompositorAt script (with_letters Compositor silent word) compositor frames
   pub made : (course_of script (with_letters Compositor silent word)).compositor_made ≡ (course_of script word).compositor_made + silent
   pub quiet : (room event_room : ℕ) → board_of (course_of script (with_letters Compositor silent word)) room event_room
       ≡ board_of (course_of script word) room event_room
-  pub order : never_fall_from compositor.last_tick (ticks_of (drop compositor.steps script.compositor)) ≡ true
-  pub times : are_at_most LAST_TIME (ticks_of (drop compositor.steps script.compositor)) ≡ true
-  pub ticks : (tick : ℕ) → IsAmong tick (ticks_of (drop compositor.steps script.compositor)) → IsAmong tick (ticks_of script.compositor)
-  pub models : model_count script ≤ compositor.models
 
--- The compositor's side is so many steps ahead of what its seat has seen, however many steps main has made meanwhile.
+-- The compositor is so many steps ahead of what its seat has seen, however many steps main has made meanwhile.
 pub record KnowsCompositor (script : ScriptLists) (seat : SeatState) (compositor : CompositorState) (frames : List DrawnFrame) : Type 0 where
   pub seat_is : IsSeatOf script Compositor seat
   pub silent : ℕ

@@ -55,7 +55,7 @@ main-left_next course (EditStep change) left = refl
 main-left_next course CommitStep left = refl
 main-left_next course DrainStep left = refl
 
-counted-next : (course : Course) (step : StepOfMain) (left : List StepOfMain) (book : Book) → book.commits ≡ length course.lanes.main.commits → (book_after_step book step).commits ≡ length (next_main course (step ∷ left)).lanes.main.commits
+pub counted-next : (course : Course) (step : StepOfMain) (left : List StepOfMain) (book : Book) → book.commits ≡ length course.lanes.main.commits → (book_after_step book step).commits ≡ length (next_main course (step ∷ left)).lanes.main.commits
 unfolding after_drain book_after
 counted-next course (EditStep change) left book is = edit-commits change ∙ is
   where

@@ -1,0 +1,5 @@
+pub mod Letters
+pub mod Halves
+pub mod MainLane
+pub mod MainSection
+pub mod CompositorLane
