@@ -27,6 +27,7 @@ use Rattle.word_machine.proofs.Moments.{allows-after}
 use Rattle.word_machine.proofs.Right.{course-append, course_is_right, next_compositor}
 use Rattle.word_machine.proofs.UnderWay.{bounded-next, compositor-left_next, ticks_go_on}
 use Rattle.lane_threads.specs.Knowing.{IsCompositorAhead, IsCompositorAt, IsNextOfCompositor, IsSeatOf, KnowsCompositor, marked, with_letters}
+use Rattle.lane_threads.specs.Sections.{MayMark}
 use Rattle.lane_threads.proofs.Halves.{HasSameCompositor, compositor-kept}
 use Rattle.lane_threads.proofs.Letters.{journal-goes_on, letters-none, letters-one}
 use Rattle.lane_threads.proofs.MainLane.{no-entries}
@@ -135,11 +136,6 @@ compositor-may script well word compositor frames step room event_room at next s
 
 -- ---- a step without new marks, ahead of the word
 
--- the step may make marks
-abbrev pub MayMark : CompositorStep → Type 0
-MayMark Pull = ⊥
-MayMark Activate = Unit {0}
-MayMark (Tick time) = Unit {0}
 
 -- the news of a side that has made its marks are the events of these
 pub news-are : (course : Course) (step : CompositorStep) (last_tick models : ℕ) → MayMark step → news_of (marked step (compositor_of course last_tick models)) ≡ map event_of (marks_of_step step course.lanes.compositor)

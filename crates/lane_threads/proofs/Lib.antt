@@ -3,3 +3,6 @@ pub mod Halves
 pub mod MainLane
 pub mod MainSection
 pub mod CompositorLane
+pub mod CompositorSection
+pub mod Sections
+pub mod Beginning

@@ -1,4 +1,6 @@
 //! Both lanes of a script at once, each in a thread of its own.
 #![tactic(auto)]
 
-pub fn nothing() {}
+mod lane_board;
+
+pub use lane_board::LaneBoard;
