@@ -6,3 +6,5 @@ pub mod CompositorLane
 pub mod CompositorSection
 pub mod Sections
 pub mod Beginning
+pub mod MainSections
+pub mod Outcomes

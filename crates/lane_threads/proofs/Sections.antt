@@ -10,7 +10,9 @@ use Rattle.frame_exchange.specs.Sides.{CompositorState, MainState, commit_of, ne
 use Rattle.tree_commit.specs.declared.runs.compositor_step.CompositorStep.{CompositorStep}
 use Rattle.tree_commit.specs.declared.runs.compositor_step.CompositorStep.TheVariants.{Pull, Activate, Tick}
 use Rattle.tree_commit.specs.Marks.{event_of}
-use Rattle.tree_commit.specs.Scripts.{CommitStep, DrainStep}
+use Rattle.frame_script.specs.Printing.{script_text}
+use Rattle.script_printer.proofs.ScriptsBack.{one_text_one_script}
+use Rattle.tree_commit.specs.Scripts.{CommitStep, DrainStep, IsWellFormed, ScriptLists}
 use Rattle.tree_commit.specs.Trees.{Committed}
 use Rattle.word_machine.specs.Turns.{MayMakeCompositor, MayMakeMain, MaySend, board_after_compositor, board_after_main, board_told, board_with_news}
 use Rattle.lane_threads.specs.Keeping.{IsKeptBehindLock, ScriptBoard}
@@ -31,11 +33,23 @@ parts-are after before entries mailbox queue e m q r =
     ∙ ap (λ x. board_with entries mailbox x after.room) q
     ∙ ap (λ x. board_with entries mailbox queue x) room
 
+-- ---- the script
+
+-- A board that is found behind the lock is one of this script, where the texts are the same.
+pub found-script : (now inside : ScriptBoard) (script : ScriptLists) → inside ≡ now → IsKeptBehindLock inside → IsWellFormed script → script_text now.script ≡ script_text script → inside ≡ record { script = script; board = now.board }
+found-script now inside script view kept well same =
+    let texts : script_text inside.script ≡ script_text script = ap (λ (s : ScriptBoard). script_text s.script) view ∙ same in
+    ap (λ s. shared_of s inside.board) (one_text_one_script inside.script script kept.well well texts)
+    ∙ ap (λ (s : ScriptBoard). shared_of script s.board) view
+  where
+    shared_of : ScriptLists → Exchange → ScriptBoard
+    shared_of script board = record { script = script; board = board }
+
 -- ---- main
 
 module _ (shared : ScriptBoard) (kept : IsKeptBehindLock shared) (main : MainState) where
   module _ (commit : Committed) (may : MayPublish shared main commit) where
-    publish-may : MayMakeMain CommitStep may.before shared.board
+    pub publish-may : MayMakeMain CommitStep may.before shared.board
     publish-may = main-may_here shared kept may.silent may.before may.counts may.ahead CommitStep may.next
 
     pub publish-later : last_upto Main shared.board.entries ≤ main.steps
@@ -114,7 +128,7 @@ module _ (shared : ScriptBoard) (kept : IsKeptBehindLock shared) (compositor : C
         (parts-are after shared.board (shared.board.entries ++ pull_entry shared.board.entries (compositor.steps + 1) (slot_of compositor.pending) ∷ []) (mailbox_after_pull shared.board (slot_of compositor.pending)) shared.board.queue entries mailbox queue room) tt
 
   module _ (may : MaySendMarks shared compositor) where
-    marks-may : MayMakeCompositor may.step may.before shared.board
+    pub marks-may : MayMakeCompositor may.step may.before shared.board
     marks-may = compositor-may_here shared kept may.silent may.before may.frames may.ahead may.step may.next
 
     send-may : MaySend compositor shared.board

@@ -1,6 +1,7 @@
 ghost use Rattle.std.specs.Prelude.{◌≡◌, ◌+◌, ◌*◌, ◌<◌, ◌≤◌, not, [], length};
 ghost use Rattle.event_queue.specs.Queues.{unheard};
 ghost use Rattle.frame_exchange.specs.Journals.{finds_nothing, reply_to_pull};
+ghost use Rattle.frame_script.specs.Printing.{script_text};
 ghost use Rattle.frame_exchange.specs.Sides.{compositor_after_pull, compositor_after_send, main_after_drain, main_after_publish, slot_of};
 ghost use Rattle.lane_threads.specs.Keeping.{IsKeptBehindLock, ScriptBoard};
 ghost use Rattle.lane_threads.specs.Sections.{MayDrain, MayPublish, MayPull, MaySendMarks, board_published};
@@ -85,49 +86,58 @@ impl LaneBoard {
         board
     }
 
-    // What is true of every board behind a lock.
-    pub(crate) fn vouch(&self)
-        ensures { IsKeptBehindLock self.now }
-    {
-        let _ = &self.board;
-    }
-
-    // Main publishes the commit that it has built.
-    pub(crate) fn publish<M: MainSteps>(&mut self, main: &mut M, commit: Arc<Commit>)
-        requires { MayPublish self.old (M.state main.old) commit.value }
+    // Main publishes the commit that it has built, in a run of this script.
+    pub(crate) fn publish<M: MainSteps>(&mut self, script: &Script, main: &mut M, commit: Arc<Commit>)
+        requires same { script_text self.old.script ≡ script_text script.now }
+        requires may { MayPublish (record { script = script.now; board = self.old.board }) (M.state main.old) commit.value }
         ensures made { M.state main.new ≡ main_after_publish (M.state main.old) }
         ensures board { self.new ≡ record self.old { board = board_published (M.state main.old) self.old.board } }
+        ensures script { self.old.script ≡ script.now }
+        ensures kept { IsKeptBehindLock self.old }
     {
+        let _well = script.main();
         main.publish(&mut self.board, commit);
     }
 
     // Main drains what it has not drained.
-    pub(crate) fn drain<M: MainSteps>(&mut self, main: &mut M)
-        requires { MayDrain self.old (M.state main.old) }
+    pub(crate) fn drain<M: MainSteps>(&mut self, script: &Script, main: &mut M)
+        requires same { script_text self.old.script ≡ script_text script.now }
+        requires may { MayDrain (record { script = script.now; board = self.old.board }) (M.state main.old) }
         ensures made { M.state main.new ≡ main_after_drain (M.state main.old) (unheard self.old.board.queue) }
         ensures board { self.new ≡ record self.old { board = board_after_main DrainStep (M.state main.old) self.old.board } }
+        ensures script { self.old.script ≡ script.now }
+        ensures kept { IsKeptBehindLock self.old }
     {
+        let _well = script.main();
         main.drain(&mut self.board);
     }
 
     // The compositor pulls, and tells whether it found a commit.
-    pub(crate) fn pull<C: CompositorSteps>(&mut self, compositor: &mut C) -> bool
-        requires { MayPull self.old (C.state compositor.old) }
+    pub(crate) fn pull<C: CompositorSteps>(&mut self, script: &Script, compositor: &mut C) -> bool
+        requires same { script_text self.old.script ≡ script_text script.now }
+        requires may { MayPull (record { script = script.now; board = self.old.board }) (C.state compositor.old) }
         ensures found { result ≡ not (finds_nothing self.old.board.entries (slot_of (C.state compositor.old).pending)) }
         ensures made { C.state compositor.new
             ≡ compositor_after_pull (C.state compositor.old) (reply_to_pull self.old.board (slot_of (C.state compositor.old).pending)) }
         ensures board { self.new ≡ record self.old { board = board_after_compositor CompositorStep.Pull (C.state compositor.old) self.old.board } }
+        ensures script { self.old.script ≡ script.now }
+        ensures kept { IsKeptBehindLock self.old }
     {
+        let _well = script.main();
         compositor.pull(&mut self.board)
     }
 
     // The compositor sends the events of its new marks.
-    pub(crate) fn send<C: CompositorSteps>(&mut self, compositor: &mut C)
-        requires marks { MaySendMarks self.old (C.state compositor.old) }
+    pub(crate) fn send<C: CompositorSteps>(&mut self, script: &Script, compositor: &mut C)
+        requires same { script_text self.old.script ≡ script_text script.now }
+        requires may { MaySendMarks (record { script = script.now; board = self.old.board }) (C.state compositor.old) }
         requires news { (C.state compositor.old).sent < length (C.state compositor.old).marks }
         ensures made { C.state compositor.new ≡ compositor_after_send (C.state compositor.old) }
         ensures board { self.new ≡ record self.old { board = board_told (C.state compositor.old) self.old.board } }
+        ensures script { self.old.script ≡ script.now }
+        ensures kept { IsKeptBehindLock self.old }
     {
+        let _well = script.main();
         compositor.send(&mut self.board);
     }
 }

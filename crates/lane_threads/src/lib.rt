@@ -2,5 +2,7 @@
 #![tactic(auto)]
 
 mod lane_board;
+mod main_turns;
 
 pub use lane_board::LaneBoard;
+pub use main_turns::main_lane;

@@ -8,4 +8,5 @@
 mod replays;
 mod turns;
 
-pub use replays::replay;
+pub use replays::{close, replay};
+pub use turns::make_edit;

@@ -41,8 +41,8 @@ pub(crate) fn turn_of_main<M: MainSteps>(
     }
 }
 
-/// Makes an edit that the book of the edits so far allows.
-fn make_edit<M: MainSteps>(edit: &Edit, main: &mut M) -> Result<(), AllocError>
+/// Makes an edit that the book of the edits so far allows. Where memory runs out nothing changes.
+pub fn make_edit<M: MainSteps>(edit: &Edit, main: &mut M) -> Result<(), AllocError>
     requires complete { IsMainComplete (M.state main.old) }
     requires steps { (M.state main.old).steps < MOST_STEPS }
     requires allowed { IsTrue (is_allowed (M.state main.old).book (EditStep (change_of edit.now))) }
