@@ -9,7 +9,7 @@ use Rattle.anim_names.specs.declared.lane.Lane.TheVariants.{Main, Compositor}
 use Rattle.anim_names.specs.Lists.{BeginsWith}
 use Rattle.commit_lock.specs.Journals.{entries_of}
 use Rattle.commit_lock.specs.Seats.{SeatState}
-use Rattle.frame_exchange.specs.Journals.{word_so_far}
+use Rattle.frame_exchange.specs.Journals.{Exchange, word_so_far}
 use Rattle.frame_exchange.specs.Sides.{CompositorState, IsCompositorComplete, compositor_after_activation, compositor_after_send, compositor_after_tick, new_compositor, news_of}
 use Rattle.frame_script.specs.Printing.{script_text}
 use Rattle.tree_commit.specs.declared.runs.compositor_step.CompositorStep.{CompositorStep}
@@ -193,10 +193,10 @@ step-is_quiet script word compositor frames step at next may none room event_roo
     ∙ still course step compositor.last_tick compositor.models room event_room may none_here
 
 -- a step that makes marks leads to the side that has sent them
-pub marked-turned : (step : CompositorStep) (course : Course) (room event_room : ℕ) (compositor later : CompositorState) → MayMark step → later ≡ compositor_after_send (marked step compositor) → later ≡ compositor_turned step (board_of course room event_room) compositor
-marked-turned Pull course room event_room compositor later may is = absurd may
-marked-turned Activate course room event_room compositor later may is = is
-marked-turned (Tick time) course room event_room compositor later may is = is
+pub marked-turned : (step : CompositorStep) (board : Exchange) (compositor later : CompositorState) → MayMark step → later ≡ compositor_after_send (marked step compositor) → later ≡ compositor_turned step board compositor
+marked-turned Pull board compositor later may is = absurd may
+marked-turned Activate board compositor later may is = is
+marked-turned (Tick time) board compositor later may is = is
 
 compositor-rests : (script : ScriptLists) (word : List Lane) (silent : ℕ) (compositor later : CompositorState) (frames more : List DrawnFrame) (step : CompositorStep) → IsCompositorAhead script word silent compositor frames → IsNextOfCompositor script compositor.steps step → MayMark step → news_of (marked step compositor) ≡ [] → later ≡ compositor_after_send (marked step compositor) → more ≡ frames_with step compositor frames → IsCompositorAhead script word (silent + 1) later more
 compositor-rests script word silent compositor later frames more step h next may none made drawn =
@@ -204,7 +204,7 @@ compositor-rests script word silent compositor later frames more step h next may
     let one = letters-one Compositor silent word in
     record {
       at = subst (λ (w : List Lane). IsCompositorAt script w later more) (sym one)
-          (compositor-next script before compositor later frames more step 0 0 h.at next (marked-turned step (course_of script before) 0 0 compositor later may made) drawn);
+          (compositor-next script before compositor later frames more step 0 0 h.at next (marked-turned step (board_of (course_of script before) 0 0) compositor later may made) drawn);
       made = ap (λ w. (course_of script w).compositor_made) one ∙ ap (λ (c : Course). c.compositor_made) (course-append script before Compositor)
           ∙ compositor_made-after (course_of script before) step (drop (compositor.steps + 1) script.compositor) (h.at.of_left ∙ next)
           ∙ ap (λ n. n + 1) h.made ∙ plus_plus (course_of script word).compositor_made;

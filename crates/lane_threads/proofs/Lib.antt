@@ -8,3 +8,4 @@ pub mod Sections
 pub mod Beginning
 pub mod MainSections
 pub mod Outcomes
+pub mod CompositorSections

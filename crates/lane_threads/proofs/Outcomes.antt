@@ -12,3 +12,9 @@ step-at {X} {Y} f items all i item is within at =
     let inside : i < length (map f items) = omega (arith, within, length-map items f) in
     subst (λ (l : List Y). drop i l ≡ f item ∷ drop (i + 1) l) is
     (drop_more (map f items) i (f item) inside ∙ ap (λ x. x ∷ drop (i + 1) (map f items)) (get_or-map f items i item (f item) within ∙ ap f (sym at)))
+
+-- the same of a lane whose steps are seen as they are
+pub step-at_itself : {X : Type 0} (items all : List X) (i : ℕ) (item : X) → items ≡ all → i < length items → item ≡ get_or items i item → drop i all ≡ item ∷ drop (i + 1) all
+step-at_itself {X} items all i item is within at =
+    subst (λ (l : List X). drop i l ≡ item ∷ drop (i + 1) l) is
+    (drop_more items i item within ∙ ap (λ x. x ∷ drop (i + 1) items) (sym at))
