@@ -29,7 +29,7 @@ use Rattle.word_machine.proofs.UnderWay.{bounded-next, compositor-left_next, tic
 use Rattle.lane_threads.specs.Knowing.{IsCompositorAhead, IsCompositorAt, IsNextOfCompositor, IsSeatOf, KnowsCompositor, marked, with_letters}
 use Rattle.lane_threads.specs.Sections.{MayMark}
 use Rattle.lane_threads.proofs.Halves.{HasSameCompositor, compositor-kept}
-use Rattle.lane_threads.proofs.Letters.{journal-goes_on, letters-none, letters-one}
+use Rattle.lane_threads.proofs.Letters.{journal-goes_on, letters-more, letters-none, letters-one}
 use Rattle.lane_threads.proofs.MainLane.{no-entries}
 
 -- ---- a side that is that of a run
@@ -256,10 +256,17 @@ knows-new_compositor script well seat compositor is room lane subject seen mine 
 
 -- ---- what a lane finds
 
--- What a lane finds behind the lock is a run in which the compositor is as far ahead as it knew.
-pub compositor-found : (script : ScriptLists) (seat : SeatState) (compositor : CompositorState) (frames : List DrawnFrame) (journal : List Entry) → (h : KnowsCompositor script seat compositor frames) → BeginsWith journal seat.seen → entries_of seat.lane journal ≡ seat.mine → IsCompositorAhead script (word_so_far journal) h.silent compositor frames
-compositor-found script seat compositor frames journal h begins own =
+-- What a lane finds behind the lock is a run in which the compositor is as far ahead as it knew, whatever steps main makes
+-- behind it.
+pub compositor-ahead_of : (script : ScriptLists) (seat : SeatState) (compositor : CompositorState) (frames : List DrawnFrame) (journal : List Entry) (others : ℕ) → (h : KnowsCompositor script seat compositor frames) → BeginsWith journal seat.seen → entries_of seat.lane journal ≡ seat.mine → IsCompositorAhead script (with_letters Main others (word_so_far journal)) h.silent compositor frames
+compositor-ahead_of script seat compositor frames journal others h begins own =
     let same : entries_of Compositor journal ≡ entries_of Compositor seat.seen =
     ap (λ l. entries_of l journal) (sym h.seat_is.lane_is) ∙ own ∙ h.seat_is.mine in
     let on = journal-goes_on Main seat.seen journal begins same in
-    subst (λ (w : List Lane). IsCompositorAhead script w h.silent compositor frames) (sym on.is) (h.ahead on.more)
+    subst (λ (w : List Lane). IsCompositorAhead script w h.silent compositor frames)
+    (letters-more Main on.more others (word_so_far seat.seen) ∙ ap (with_letters Main others) (sym on.is)) (h.ahead (on.more + others))
+
+pub compositor-found : (script : ScriptLists) (seat : SeatState) (compositor : CompositorState) (frames : List DrawnFrame) (journal : List Entry) → (h : KnowsCompositor script seat compositor frames) → BeginsWith journal seat.seen → entries_of seat.lane journal ≡ seat.mine → IsCompositorAhead script (word_so_far journal) h.silent compositor frames
+compositor-found script seat compositor frames journal h begins own =
+    subst (λ (w : List Lane). IsCompositorAhead script w h.silent compositor frames) (letters-none Main (word_so_far journal))
+    (compositor-ahead_of script seat compositor frames journal 0 h begins own)

@@ -9,3 +9,4 @@ pub mod Beginning
 pub mod MainSections
 pub mod Outcomes
 pub mod CompositorSections
+pub mod Ends

@@ -4,15 +4,15 @@ use Rattle.anim_names.specs.declared.lane.Lane.{Lane}
 use Rattle.anim_names.specs.declared.lane.Lane.TheVariants.{Main, Compositor}
 use Rattle.commit_lock.specs.Journals.{entries_of}
 use Rattle.commit_lock.specs.Seats.{SeatState}
-use Rattle.frame_exchange.specs.Journals.{word_so_far}
+use Rattle.frame_exchange.specs.Journals.{Exchange, word_of_journal, word_so_far}
 use Rattle.frame_exchange.specs.Sides.{CompositorState, MainState, compositor_after_activation, compositor_after_tick}
 use Rattle.frame_script.specs.Printing.{script_text}
 use Rattle.tree_commit.specs.declared.runs.compositor_step.CompositorStep.{CompositorStep}
 use Rattle.tree_commit.specs.declared.runs.compositor_step.CompositorStep.TheVariants.{Pull, Activate, Tick}
 use Rattle.tree_commit.specs.Frames.{DrawnFrame}
-use Rattle.tree_commit.specs.Scripts.{ScriptLists, StepOfMain, are_allowed}
+use Rattle.tree_commit.specs.Scripts.{IsWordOf, ScriptLists, StepOfMain, are_allowed}
 use Rattle.word_machine.specs.Courses.{board_of, compositor_of, course_of, main_of}
-use Rattle.word_machine.specs.Moments.{TicksAreLeft, model_count}
+use Rattle.word_machine.specs.Moments.{IsAt, TicksAreLeft, model_count}
 
 -- the word with this many more letters of the lane
 abbrev pub with_letters : Lane → ℕ → List Lane → List Lane
@@ -88,3 +88,12 @@ abbrev pub marked : CompositorStep → CompositorState → CompositorState
 marked Pull compositor = compositor
 marked Activate compositor = compositor_after_activation compositor
 marked (Tick time) compositor = compositor_after_tick compositor time
+
+-- ---- the end
+
+-- Both lanes have ended: main's side, the board, the counts and the frames are those of the run after the word of the
+-- board's journal, which is a word of the script.
+pub record HaveEnded (script : ScriptLists) (board : Exchange) (main : MainState) (counts : List ℕ) (frames : List DrawnFrame) : Type 0 where
+  pub compositor : CompositorState
+  pub at : IsAt script (word_of_journal board.entries (length script.main) (length script.compositor)) main compositor board counts frames
+  pub word : IsWordOf (length script.main) (length script.compositor) (word_of_journal board.entries (length script.main) (length script.compositor))
