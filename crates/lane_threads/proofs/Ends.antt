@@ -14,7 +14,13 @@ use Rattle.tree_commit.specs.Frames.{DrawnFrame}
 use Rattle.tree_commit.specs.Marks.{event_of}
 use Rattle.anim_timeline.specs.declared.TheConstants.{LAST_TIME}
 use Rattle.tree_commit.specs.Follows.{IsAmong}
-use Rattle.tree_commit.specs.Scripts.{IsWordOf, ScriptLists, are_allowed, are_at_most, never_fall_from, ticks_of}
+use Rattle.anim_names.specs.declared.event.AnimEvent.{AnimEvent}
+use Rattle.event_queue.specs.Queues.{unheard}
+use Rattle.tree_commit.specs.Runs.{ReportLists, report_of}
+use Rattle.word_machine.specs.Laws.{KeepsLaws}
+use Rattle.word_machine.proofs.Keeping.{keeps_laws}
+use Rattle.word_machine.proofs.Moments.{report-made}
+use Rattle.tree_commit.specs.Scripts.{IsWellFormed, IsWordOf, ScriptLists, are_allowed, are_at_most, never_fall_from, ticks_of}
 use Rattle.tree_commit.specs.declared.runs.compositor_step.CompositorStep.{CompositorStep}
 use Rattle.word_machine.specs.Courses.{Course, board_of, course_of}
 use Rattle.word_machine.specs.Moments.{HasRoom, IsAt, IsUnderWay, model_count}
@@ -120,3 +126,24 @@ module _ (script : ScriptLists) (shared : ScriptBoard) (is : shared.script ≡ s
       of_compositor = letters-own Compositor c.silent with_main ∙ sym compositor-letters;
     });
   }
+
+-- ---- the report
+
+-- what is true of a report of lanes that have ended
+pub record ReportsWord (script : ScriptLists) (report : ReportLists) : Type 0 where
+  pub word : IsWordOf (length script.main) (length script.compositor) report.word
+  pub report_is : report ≡ report_of script report.word
+  pub laws : KeepsLaws script report.word
+
+pub reports-word : (script : ScriptLists) → IsWellFormed script → (board : Exchange) (main : MainState) (counts : List ℕ) (frames : List DrawnFrame) → HaveEnded script board main counts frames → (report : ReportLists) (letters : List Lane) (events : List AnimEvent) (heard : List ℕ) (of_main of_compositor : ℕ) → of_main ≡ length script.main → of_compositor ≡ length script.compositor → report ≡ record { word = letters; frames = frames; events = events; heard = heard } → letters ≡ word_of_journal board.entries of_main of_compositor → events ≡ board.queue.events → heard ≡ counts ++ (main.heard + length (unheard board.queue)) ∷ [] → ReportsWord script report
+reports-word script well board main counts frames h report letters events heard of_main of_compositor m c is w e n =
+    let word = word_of_journal board.entries (length script.main) (length script.compositor) in
+    let letters_are : letters ≡ word =
+    w ∙ ap (λ k. word_of_journal board.entries k of_compositor) m ∙ ap (λ k. word_of_journal board.entries (length script.main) k) c in
+    let word_is : report.word ≡ word = ap (λ (r : ReportLists). r.word) is ∙ letters_are in
+    let made = report-made script word main h.compositor board counts frames h.at report letters events heard is letters_are e n in
+    record {
+      word = subst (λ (l : List Lane). IsWordOf (length script.main) (length script.compositor) l) (sym word_is) h.word;
+      report_is = made ∙ ap (report_of script) (sym word_is);
+      laws = subst (λ (l : List Lane). KeepsLaws script l) (sym word_is) (keeps_laws script well word);
+    }

@@ -1,5 +1,5 @@
 -- A fact of what a call left where it answered Ok, and the step at an index of a lane.
-use Rattle.std.proofs.Common.{◌≡◌, ℕ, ◌+◌, ◌<◌, List, ◌∷◌, drop, get_or, length, map, Result, Ok, Err, OnOk, refl, sym, ap, ◌∙◌, subst, arith}
+use Rattle.std.proofs.Common.{◌≡◌, ℕ, ◌+◌, ◌<◌, List, ◌∷◌, drop, get_or, length, map, Result, Ok, Err, IfOk, OnOk, refl, sym, ap, ◌∙◌, subst, arith}
 use Rattle.std.proofs.lemmas.List.{drop_more, get_or-map, length-map}
 
 pub on_ok : {T E P Q : Type 0} (r : Result T E) → (P → Q) → OnOk r P → OnOk r Q
@@ -13,8 +13,10 @@ step-at {X} {Y} f items all i item is within at =
     subst (λ (l : List Y). drop i l ≡ f item ∷ drop (i + 1) l) is
     (drop_more (map f items) i (f item) inside ∙ ap (λ x. x ∷ drop (i + 1) (map f items)) (get_or-map f items i item (f item) within ∙ ap f (sym at)))
 
--- the same of a lane whose steps are seen as they are
-pub step-at_itself : {X : Type 0} (items all : List X) (i : ℕ) (item : X) → items ≡ all → i < length items → item ≡ get_or items i item → drop i all ≡ item ∷ drop (i + 1) all
-step-at_itself {X} items all i item is within at =
-    subst (λ (l : List X). drop i l ≡ item ∷ drop (i + 1) l) is
-    (drop_more items i item within ∙ ap (λ x. x ∷ drop (i + 1) items) (sym at))
+-- ---- a value that was found to be Ok
+
+pub if_ok : {T E : Type 0} (P : T → Type 0) (r : Result T E) (value : T) → r ≡ Ok value → IfOk r P → P value
+if_ok {T} {E} P r value is h = let Q : Result T E → Type 0 = λ x. IfOk x P in subst Q is h
+
+pub where_ok : {T E P : Type 0} (r : Result T E) (value : T) → r ≡ Ok value → OnOk r P → P
+where_ok {T} {E} {P} r value is h = let Q : Result T E → Type 0 = λ x. OnOk x P in subst Q is h

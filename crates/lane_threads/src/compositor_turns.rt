@@ -25,15 +25,15 @@ use tree_commit::{CompositorStep, Frame};
 /// Before each step it passes the gate. A pull has one section of the lock, and so has a tick or an activation that made
 /// marks; each has one call on the board, and all else is made outside. It may wait for the lock. Where memory runs out
 /// the lane ends: the seat comes back, and nothing more is said of the side.
-pub fn compositor_lane<C: CompositorSteps, G: Gate, R: Wait>(
+pub fn compositor_lane<'s, C: CompositorSteps, G: Gate, R: Wait>(
     rt: &R,
     alloc: Global,
-    lock: &CommitLock<LaneBoard>,
-    mut seat: LaneSeat<LaneBoard>,
+    lock: &CommitLock<LaneBoard<'s>>,
+    mut seat: LaneSeat<LaneBoard<'s>>,
     script: &Script,
     side: &mut C,
     gate: &G,
-) -> (LaneSeat<LaneBoard>, Result<Vec<Frame>, AllocError>)
+) -> (LaneSeat<LaneBoard<'s>>, Result<Vec<Frame>, AllocError>)
     requires seat { seat ≡ fresh_seat lock.now Lane.Compositor (script_text script.now) }
     requires new { C.state side.old ≡ new_compositor (C.state side.old).models }
     requires models { model_count script.now ≤ (C.state side.old).models }
@@ -63,15 +63,15 @@ pub fn compositor_lane<C: CompositorSteps, G: Gate, R: Wait>(
 }
 
 // Makes the compositor's next step.
-fn turn<C: CompositorSteps, R: Wait>(
+fn turn<'s, C: CompositorSteps, R: Wait>(
     rt: &R,
-    lock: &CommitLock<LaneBoard>,
-    seat: LaneSeat<LaneBoard>,
+    lock: &CommitLock<LaneBoard<'s>>,
+    seat: LaneSeat<LaneBoard<'s>>,
     script: &Script,
     step: CompositorStep,
     compositor: &mut C,
     frames: &mut Vec<Frame>,
-) -> (LaneSeat<LaneBoard>, Result<(), AllocError>)
+) -> (LaneSeat<LaneBoard<'s>>, Result<(), AllocError>)
     requires lock { seat.lock ≡ lock.now }
     requires knows { KnowsCompositor script.now seat (C.state compositor.old) frames.old.items }
     requires next { IsNextOfCompositor script.now (C.state compositor.old).steps step }
@@ -91,14 +91,14 @@ fn turn<C: CompositorSteps, R: Wait>(
 }
 
 // Pulls in a section, and places outside what that found.
-fn make_pull<C: CompositorSteps, R: Wait>(
+fn make_pull<'s, C: CompositorSteps, R: Wait>(
     rt: &R,
-    lock: &CommitLock<LaneBoard>,
-    seat: LaneSeat<LaneBoard>,
+    lock: &CommitLock<LaneBoard<'s>>,
+    seat: LaneSeat<LaneBoard<'s>>,
     script: &Script,
     compositor: &mut C,
     frames: &Vec<Frame>,
-) -> (LaneSeat<LaneBoard>, Result<(), AllocError>)
+) -> (LaneSeat<LaneBoard<'s>>, Result<(), AllocError>)
     requires lock { seat.lock ≡ lock.now }
     requires knows { KnowsCompositor script.now seat (C.state compositor.old) frames.now.items }
     requires next { IsNextOfCompositor script.now (C.state compositor.old).steps CompositorStep.Pull }
@@ -116,14 +116,14 @@ fn make_pull<C: CompositorSteps, R: Wait>(
 }
 
 // The section of a pull. It tells whether a commit was found.
-fn pull<C: CompositorSteps, R: Wait>(
+fn pull<'s, C: CompositorSteps, R: Wait>(
     rt: &R,
-    lock: &CommitLock<LaneBoard>,
-    seat: LaneSeat<LaneBoard>,
+    lock: &CommitLock<LaneBoard<'s>>,
+    seat: LaneSeat<LaneBoard<'s>>,
     script: &Script,
     compositor: &mut C,
     frames: &Vec<Frame>,
-) -> (LaneSeat<LaneBoard>, bool)
+) -> (LaneSeat<LaneBoard<'s>>, bool)
     requires lock { seat.lock ≡ lock.now }
     requires knows { KnowsCompositor script.now seat (C.state compositor.old) frames.now.items }
     requires next { IsNextOfCompositor script.now (C.state compositor.old).steps CompositorStep.Pull }
@@ -138,14 +138,14 @@ fn pull<C: CompositorSteps, R: Wait>(
 }
 
 // Activates outside, and sends the news of that in a section.
-fn make_activation<C: CompositorSteps, R: Wait>(
+fn make_activation<'s, C: CompositorSteps, R: Wait>(
     rt: &R,
-    lock: &CommitLock<LaneBoard>,
-    seat: LaneSeat<LaneBoard>,
+    lock: &CommitLock<LaneBoard<'s>>,
+    seat: LaneSeat<LaneBoard<'s>>,
     script: &Script,
     compositor: &mut C,
     frames: &Vec<Frame>,
-) -> LaneSeat<LaneBoard>
+) -> LaneSeat<LaneBoard<'s>>
     requires lock { seat.lock ≡ lock.now }
     requires knows { KnowsCompositor script.now seat (C.state compositor.old) frames.now.items }
     requires next { IsNextOfCompositor script.now (C.state compositor.old).steps CompositorStep.Activate }
@@ -159,15 +159,15 @@ fn make_activation<C: CompositorSteps, R: Wait>(
 }
 
 // Makes a tick outside, and sends the news of that in a section.
-fn make_tick<C: CompositorSteps, R: Wait>(
+fn make_tick<'s, C: CompositorSteps, R: Wait>(
     rt: &R,
-    lock: &CommitLock<LaneBoard>,
-    seat: LaneSeat<LaneBoard>,
+    lock: &CommitLock<LaneBoard<'s>>,
+    seat: LaneSeat<LaneBoard<'s>>,
     script: &Script,
     time: u64,
     compositor: &mut C,
     frames: &mut Vec<Frame>,
-) -> (LaneSeat<LaneBoard>, Result<(), AllocError>)
+) -> (LaneSeat<LaneBoard<'s>>, Result<(), AllocError>)
     requires lock { seat.lock ≡ lock.now }
     requires knows { KnowsCompositor script.now seat (C.state compositor.old) frames.old.items }
     requires next { IsNextOfCompositor script.now (C.state compositor.old).steps (CompositorStep.Tick time) }
@@ -183,9 +183,9 @@ fn make_tick<C: CompositorSteps, R: Wait>(
 }
 
 // Makes the marks of a tick, and puts its frame behind the others.
-fn draw<C: CompositorSteps>(
+fn draw<'s, C: CompositorSteps>(
     script: &Script,
-    seat: &LaneSeat<LaneBoard>,
+    seat: &LaneSeat<LaneBoard<'s>>,
     time: u64,
     compositor: &mut C,
     frames: &mut Vec<Frame>,
@@ -202,14 +202,14 @@ fn draw<C: CompositorSteps>(
 }
 
 // Sends the news of the marks that a step has made, where it made some.
-fn send_news<C: CompositorSteps, R: Wait>(
+fn send_news<'s, C: CompositorSteps, R: Wait>(
     rt: &R,
-    lock: &CommitLock<LaneBoard>,
-    seat: LaneSeat<LaneBoard>,
+    lock: &CommitLock<LaneBoard<'s>>,
+    seat: LaneSeat<LaneBoard<'s>>,
     script: &Script,
     compositor: &mut C,
     frames: &Vec<Frame>,
-) -> LaneSeat<LaneBoard>
+) -> LaneSeat<LaneBoard<'s>>
     requires lock { seat.lock ≡ lock.now }
     requires marked { HasMarked script.now seat (C.state compositor.old) frames.now.items }
     ensures lock { result.lock ≡ lock.now }
@@ -225,14 +225,14 @@ fn send_news<C: CompositorSteps, R: Wait>(
 }
 
 // The section in which news are sent.
-fn send<C: CompositorSteps, R: Wait>(
+fn send<'s, C: CompositorSteps, R: Wait>(
     rt: &R,
-    lock: &CommitLock<LaneBoard>,
-    seat: LaneSeat<LaneBoard>,
+    lock: &CommitLock<LaneBoard<'s>>,
+    seat: LaneSeat<LaneBoard<'s>>,
     script: &Script,
     compositor: &mut C,
     frames: &Vec<Frame>,
-) -> LaneSeat<LaneBoard>
+) -> LaneSeat<LaneBoard<'s>>
     requires lock { seat.lock ≡ lock.now }
     requires marked { HasMarked script.now seat (C.state compositor.old) frames.now.items }
     requires news { (C.state compositor.old).sent < length (C.state compositor.old).marks }

@@ -14,7 +14,6 @@ use commit_lock::Journaled;
 use frame_exchange::{Board, CompositorSteps, MainSteps};
 use frame_script::Script;
 use std::marker::Model;
-use std::snapshot::Snapshot;
 use std::sync::Arc;
 use tree_commit::Commit;
 
@@ -22,16 +21,16 @@ use tree_commit::Commit;
 ///
 /// There is one for a run. Each lane has it in its own sections alone. It keeps that its entries, its mailbox and its
 /// events are those of the script's run after the word of its journal so far. It does not know which lane has it, nor
-/// what the lanes do outside of their sections. The script is for contracts alone: it takes no bytes here.
+/// what the lanes do outside of their sections. Its script is for contracts alone: no running code reads it.
 ///
 /// A contract sees a `ScriptBoard`. As the value of a lock its journal is the board's, and its subject is the printed
 /// text of the script.
-pub struct LaneBoard {
+pub struct LaneBoard<'s> {
     board: Board,
-    script: Snapshot<Script>,
+    script: &'s Script,
 }
 
-impl Drop for LaneBoard {
+impl<'s> Drop for LaneBoard<'s> {
     fn drop(self) {
         let LaneBoard {
             board: _board,
@@ -40,19 +39,19 @@ impl Drop for LaneBoard {
     }
 }
 
-impl Model for LaneBoard {
+impl<'s> Model for LaneBoard<'s> {
     ghost use Rattle.lane_threads.specs.Keeping.{IsKeptBehindLock, ScriptBoard};
 
     ghost Value = { ScriptBoard };
 
-    ghost view = { λ b. record { script = b.script.value; board = b.board } };
+    ghost view = { λ b. record { script = b.script.now; board = b.board } };
 
-    ghost invariant = { λ b. IsKeptBehindLock (record { script = b.script.value; board = b.board }) };
+    ghost invariant = { λ b. IsKeptBehindLock (record { script = b.script.now; board = b.board }) };
 }
 
-impl LaneBoard {
+impl<'s> LaneBoard<'s> {
     /// The board of a run before its first step, with room for an entry a step and for two events a keyframe model.
-    pub fn new(script: &Script, board: Board) -> LaneBoard
+    pub fn new(script: &'s Script, board: Board) -> LaneBoard<'s>
         requires no_entry { board.entries ≡ [] }
         requires entry_room { length script.now.main + length script.now.compositor ≤ board.room }
         requires event_room { 2 * model_count script.now ≤ board.queue.room }
@@ -61,10 +60,7 @@ impl LaneBoard {
     {
         let _well = script.main();
         let _kept = board.entry_count();
-        LaneBoard {
-            board,
-            script: Snapshot::of(script),
-        }
+        LaneBoard { board, script }
     }
 
     /// The board.
@@ -79,8 +75,8 @@ impl LaneBoard {
 
     /// The board, for itself.
     pub fn into_board(self) -> Board
-        ensures board { result ≡ self.board }
-        ensures kept { IsKeptBehindLock self }
+        ensures board { result ≡ self.entry.board }
+        ensures kept { IsKeptBehindLock self.entry }
     {
         let LaneBoard { board, script: _ } = self;
         board
@@ -142,7 +138,7 @@ impl LaneBoard {
     }
 }
 
-impl Journaled for LaneBoard {
+impl<'s> Journaled for LaneBoard<'s> {
     ghost use Rattle.frame_script.specs.Printing.{script_text};
 
     ghost journal = { λ b. b.board.entries };

@@ -27,15 +27,15 @@ use word_machine::make_edit;
 /// Before each step it passes the gate. A commit and a drain have one section of the lock each, with one call on the
 /// board; all else is made outside. It may wait for the lock. Where memory runs out the lane ends: the seat comes back,
 /// and nothing more is said of the side.
-pub fn main_lane<M: MainSteps, G: Gate, R: Wait>(
+pub fn main_lane<'s, M: MainSteps, G: Gate, R: Wait>(
     rt: &R,
     alloc: Global,
-    lock: &CommitLock<LaneBoard>,
-    mut seat: LaneSeat<LaneBoard>,
+    lock: &CommitLock<LaneBoard<'s>>,
+    mut seat: LaneSeat<LaneBoard<'s>>,
     script: &Script,
     side: &mut M,
     gate: &G,
-) -> (LaneSeat<LaneBoard>, Result<Vec<u32>, AllocError>)
+) -> (LaneSeat<LaneBoard<'s>>, Result<Vec<u32>, AllocError>)
     requires seat { seat ≡ fresh_seat lock.now Lane.Main (script_text script.now) }
     requires new { M.state side.old ≡ new_main (M.state side.old).room }
     requires room { 2 * model_count script.now ≤ (M.state side.old).room }
@@ -63,15 +63,15 @@ pub fn main_lane<M: MainSteps, G: Gate, R: Wait>(
 }
 
 // Makes main's next step.
-fn turn<M: MainSteps, R: Wait>(
+fn turn<'s, M: MainSteps, R: Wait>(
     rt: &R,
-    lock: &CommitLock<LaneBoard>,
-    seat: LaneSeat<LaneBoard>,
+    lock: &CommitLock<LaneBoard<'s>>,
+    seat: LaneSeat<LaneBoard<'s>>,
     script: &Script,
     step: &MainStep,
     main: &mut M,
     counts: &mut Vec<u32>,
-) -> (LaneSeat<LaneBoard>, Result<(), AllocError>)
+) -> (LaneSeat<LaneBoard<'s>>, Result<(), AllocError>)
     requires lock { seat.lock ≡ lock.now }
     requires knows { KnowsMain script.now seat (M.state main.old) counts.old.items }
     requires next { IsNextOfMain script.now (M.state main.old).steps (step_of step.now) }
@@ -91,10 +91,10 @@ fn turn<M: MainSteps, R: Wait>(
 }
 
 // Makes an edit, which takes no section.
-fn edit_ahead<M: MainSteps>(
+fn edit_ahead<'s, M: MainSteps>(
     edit: &Edit,
     script: &Script,
-    seat: &LaneSeat<LaneBoard>,
+    seat: &LaneSeat<LaneBoard<'s>>,
     main: &mut M,
     counts: &Vec<u32>,
 ) -> Result<(), AllocError>
@@ -108,14 +108,14 @@ fn edit_ahead<M: MainSteps>(
 }
 
 // Builds a commit outside, and publishes it in a section.
-fn make_commit<M: MainSteps, R: Wait>(
+fn make_commit<'s, M: MainSteps, R: Wait>(
     rt: &R,
-    lock: &CommitLock<LaneBoard>,
-    seat: LaneSeat<LaneBoard>,
+    lock: &CommitLock<LaneBoard<'s>>,
+    seat: LaneSeat<LaneBoard<'s>>,
     script: &Script,
     main: &mut M,
     counts: &Vec<u32>,
-) -> (LaneSeat<LaneBoard>, Result<(), AllocError>)
+) -> (LaneSeat<LaneBoard<'s>>, Result<(), AllocError>)
     requires lock { seat.lock ≡ lock.now }
     requires knows { KnowsMain script.now seat (M.state main.old) counts.now.items }
     requires next { IsNextOfMain script.now (M.state main.old).steps CommitStep }
@@ -132,15 +132,15 @@ fn make_commit<M: MainSteps, R: Wait>(
 }
 
 // The section of a commit.
-fn publish<M: MainSteps, R: Wait>(
+fn publish<'s, M: MainSteps, R: Wait>(
     rt: &R,
-    lock: &CommitLock<LaneBoard>,
-    seat: LaneSeat<LaneBoard>,
+    lock: &CommitLock<LaneBoard<'s>>,
+    seat: LaneSeat<LaneBoard<'s>>,
     script: &Script,
     main: &mut M,
     commit: Arc<Commit>,
     counts: &Vec<u32>,
-) -> LaneSeat<LaneBoard>
+) -> LaneSeat<LaneBoard<'s>>
     requires lock { seat.lock ≡ lock.now }
     requires built { HasBuilt script.now seat (M.state main.old) commit.value counts.now.items }
     ensures lock { result.lock ≡ lock.now }
@@ -154,14 +154,14 @@ fn publish<M: MainSteps, R: Wait>(
 }
 
 // Drains in a section, and hears outside what was drained.
-fn make_drain<M: MainSteps, R: Wait>(
+fn make_drain<'s, M: MainSteps, R: Wait>(
     rt: &R,
-    lock: &CommitLock<LaneBoard>,
-    seat: LaneSeat<LaneBoard>,
+    lock: &CommitLock<LaneBoard<'s>>,
+    seat: LaneSeat<LaneBoard<'s>>,
     script: &Script,
     main: &mut M,
     counts: &mut Vec<u32>,
-) -> (LaneSeat<LaneBoard>, Result<(), AllocError>)
+) -> (LaneSeat<LaneBoard<'s>>, Result<(), AllocError>)
     requires lock { seat.lock ≡ lock.now }
     requires knows { KnowsMain script.now seat (M.state main.old) counts.old.items }
     requires next { IsNextOfMain script.now (M.state main.old).steps DrainStep }
@@ -179,14 +179,14 @@ fn make_drain<M: MainSteps, R: Wait>(
 }
 
 // The section of a drain.
-fn drain<M: MainSteps, R: Wait>(
+fn drain<'s, M: MainSteps, R: Wait>(
     rt: &R,
-    lock: &CommitLock<LaneBoard>,
-    seat: LaneSeat<LaneBoard>,
+    lock: &CommitLock<LaneBoard<'s>>,
+    seat: LaneSeat<LaneBoard<'s>>,
     script: &Script,
     main: &mut M,
     counts: &Vec<u32>,
-) -> LaneSeat<LaneBoard>
+) -> LaneSeat<LaneBoard<'s>>
     requires lock { seat.lock ≡ lock.now }
     requires knows { KnowsMain script.now seat (M.state main.old) counts.now.items }
     requires next { IsNextOfMain script.now (M.state main.old).steps DrainStep }

@@ -1,10 +1,6 @@
-use Rattle.std.proofs.Common.{sym, subst}
-use Rattle.tree_commit.specs.Scripts.{ScriptLists}
-use Rattle.lane_threads.specs.Keeping.{IsKeptBehindLock}
 use Rattle.lane_threads.proofs.Beginning.{kept-new}
 use Rattle.lane_threads.proofs.lane_board.LaneBoard.new.Goals as goal
 
 pub invariant_of-result : goal.invariant_of-result
 invariant_of-result c =
-    subst (λ (s : ScriptLists). IsKeptBehindLock (record { script = s; board = c.args.board })) (sym c.of.ensures)
-    (kept-new _ c.main-well.ensures.kept _ c.entry_count-kept.ensures.exchange c.requires.no_entry c.requires.entry_room c.requires.event_room)
+    kept-new _ c.main-well.ensures.kept _ c.entry_count-kept.ensures.exchange c.requires.no_entry c.requires.entry_room c.requires.event_room
