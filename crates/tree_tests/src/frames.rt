@@ -2,6 +2,7 @@
 
 ghost use Rattle.std.specs.Prelude.{◌≡◌, ◌≤◌, [], None, OnOk};
 ghost use Rattle.tree_commit.specs.Trees.{empty_commit};
+ghost use Rattle.tree_tests.specs.Steps.{KeepsCommits};
 
 use crate::scripts::TWO_GROUPS;
 use crate::steps::{begin, only_commit, tick};
@@ -32,9 +33,9 @@ pub enum Told {
 #[derive(Clone, Copy)]
 pub struct Row(pub u32, pub Option<i64>);
 
-// A tick, the news that it makes, and the row of element 1 in its frame.
+// A tick, the news that it makes, and the row of element 1 in its frame, where the frame has one.
 #[derive(Clone, Copy)]
-pub struct Ticked<'a>(pub u64, pub &'a [Told], pub Row);
+pub struct Ticked<'a>(pub u64, pub &'a [Told], pub Option<Row>);
 
 fn event_of(told: Told) -> AnimEvent {
     match told {
@@ -76,8 +77,15 @@ fn expect_list(rt: &impl Abort, list: &TransformList, x: Option<i64>) {
     }
 }
 
-pub fn expect_row(rt: &impl Abort, frame: &Frame, time: u64, row: Row) {
+fn expect_frame(rt: &impl Abort, frame: &Frame, time: u64, row: Option<Row>) {
     assert!(rt; frame.time() == time);
+    match row {
+        None => assert!(rt; frame.row_count() == 0),
+        Some(row) => expect_row(rt, frame, row),
+    }
+}
+
+fn expect_row(rt: &impl Abort, frame: &Frame, row: Row) {
     assert!(rt; frame.row_count() == 1);
     let drawn = frame.row(0);
     assert!(rt; drawn.element == ElementId(1));
@@ -87,20 +95,22 @@ pub fn expect_row(rt: &impl Abort, frame: &Frame, time: u64, row: Row) {
 
 // ---- ticks
 
-fn expect_tick(
+pub fn expect_tick(
     rt: &impl Abort,
     host: &mut AnimHost,
     active: &mut ActiveTree,
     ticked: Ticked,
 ) -> Result<(), AllocError>
     requires { active.old ≡ host.old.active }
-    ensures { active.new ≡ host.new.active }
+    ensures host { KeepsCommits host.old host.new }
+    ensures active { active.new ≡ active.old }
 {
     let Ticked(time, told, row) = ticked;
     let before = host.news().len();
     let frame = tick(rt, host, active, time)?;
     expect_news(rt, host, before, told);
-    expect_row(rt, &frame, time, row);
+    assert!(rt; frame.commit() == active.commit().number());
+    expect_frame(rt, &frame, time, row);
     Ok(())
 }
 
@@ -167,7 +177,7 @@ end
 
 #[test]
 fn of_two_groups_on_one_property_the_first_starts_alone(rt: HostRuntime) -> Result<(), Fail> {
-    let ticks = [Ticked(0, &[Told::Started(1, 1, 0, 0)], Row(0, None))];
+    let ticks = [Ticked(0, &[Told::Started(1, 1, 0, 0)], Some(Row(0, None)))];
     expect_script(&rt, rt.alloc(), TWO_FADES, &ticks)
 }
 
@@ -181,11 +191,11 @@ fn a_group_starts_once_the_one_before_it_is_done(rt: HostRuntime) -> Result<(), 
         Told::Started(3, 2, 3000, 3000),
     ];
     let ticks = [
-        Ticked(0, &starts, Row(0, Some(0))),
-        Ticked(1000, &[], Row(1_000_000, Some(999))),
-        Ticked(2000, &[], Row(1_000_000, Some(1999))),
-        Ticked(3000, &changes, Row(500_000, None)),
-        Ticked(4000, &[Told::Finished(3, 4000)], Row(1_000_000, None)),
+        Ticked(0, &starts, Some(Row(0, Some(0)))),
+        Ticked(1000, &[], Some(Row(1_000_000, Some(999)))),
+        Ticked(2000, &[], Some(Row(1_000_000, Some(1999)))),
+        Ticked(3000, &changes, Some(Row(500_000, None))),
+        Ticked(4000, &[Told::Finished(3, 4000)], Some(Row(1_000_000, None))),
     ];
     expect_script(&rt, rt.alloc(), TWO_GROUPS, &ticks)
 }
@@ -223,7 +233,11 @@ const FILLS: [(&str, u32); 2] = [(FILLED_BEFORE, 250_000), (FILLED_BEHIND, 1_000
 #[test]
 fn before_a_given_start_the_first_value_stands_by_the_fill(rt: HostRuntime) -> Result<(), Fail> {
     for (text, opacity) in FILLS {
-        let ticks = [Ticked(2000, &[Told::Started(1, 1, 2000, 5000)], Row(opacity, None))];
+        let ticks = [Ticked(
+            2000,
+            &[Told::Started(1, 1, 2000, 5000)],
+            Some(Row(opacity, None)),
+        )];
         expect_script(&rt, rt.alloc(), text, &ticks)?;
     }
     Ok(())

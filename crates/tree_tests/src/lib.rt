@@ -26,6 +26,10 @@ mod samples;
 #[cfg(test)]
 mod scripts;
 #[cfg(test)]
+mod second_commit;
+#[cfg(test)]
 mod steps;
 #[cfg(test)]
 mod trees;
+#[cfg(test)]
+mod two_commits;

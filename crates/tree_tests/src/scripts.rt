@@ -45,7 +45,7 @@ end
 ";
 
 /// The element of two models comes with the second commit.
-const LATE_ELEMENT: &str = "anim 1
+pub const LATE_ELEMENT: &str = "anim 1
 main
 timeline 1 0
 model 1 1 1 1 opacity - 0 1000 0 normal none 1000 auto linear 2
@@ -69,7 +69,7 @@ end
 ";
 
 /// An element goes while its model waits.
-const DROPPED_ELEMENT: &str = "anim 1
+pub const DROPPED_ELEMENT: &str = "anim 1
 main
 timeline 1 0
 element 1 1000000 none
@@ -91,7 +91,7 @@ end
 ";
 
 /// A model goes while it runs.
-const DROPPED_MODEL: &str = "anim 1
+pub const DROPPED_MODEL: &str = "anim 1
 main
 timeline 1 0
 element 1 1000000 none
