@@ -1,5 +1,5 @@
 -- A commit in which nothing but elements is new follows the one before, and there is room for its models.
-use Rattle.std.proofs.Common.{◌≡◌, ℕ, ◌≤◌, ◌==◌, Bool, true, false, List, [], ◌∷◌, length, map, refl, sym, ap, subst, ◌∙◌, inl, inr, arith}
+use Rattle.std.proofs.Common.{◌≡◌, ℕ, ◌≤◌, ◌==◌, true, false, List, [], ◌∷◌, length, map, refl, sym, ap, subst, ◌∙◌, inl, inr, arith}
 use Rattle.std.specs.Prelude.{IsTrue, All, nat_eq}
 use Rattle.std.specs.List.{AllByRecursion, IsDistinct, list_any}
 use Rattle.std.proofs.lemmas.Bool.{false≢true, eqb-true, eq-eqb}
@@ -12,7 +12,6 @@ use Rattle.tree_commit.specs.Edits.{Change, AddElement, RemoveElement, SetOpacit
 use Rattle.tree_commit.specs.Follows.{Follows, IsAmong, IsKnown, KnowsAtMost, has_mark}
 use Rattle.tree_commit.specs.Marks.{event_of, model_of}
 use Rattle.tree_commit.specs.Runs.{model_of_event}
-use Rattle.tree_commit.specs.Tables.{has_timeline}
 use Rattle.tree_commit.specs.Trees.{Clock, TreeLists, has_model, origin_of}
 use Rattle.run_laws.proofs.AddedModels.{distinct_within}
 use Rattle.run_laws.proofs.Among.{among-map, among-without, any-among, any-cases}
