@@ -45,7 +45,7 @@ end
 ";
 
 /// The element of two models comes with the second commit.
-pub const LATE_ELEMENT: &str = "anim 1
+const LATE_ELEMENT: &str = "anim 1
 main
 timeline 1 0
 model 1 1 1 1 opacity - 0 1000 0 normal none 1000 auto linear 2
@@ -69,7 +69,7 @@ end
 ";
 
 /// An element goes while its model waits.
-pub const DROPPED_ELEMENT: &str = "anim 1
+const DROPPED_ELEMENT: &str = "anim 1
 main
 timeline 1 0
 element 1 1000000 none
@@ -91,7 +91,7 @@ end
 ";
 
 /// A model goes while it runs.
-pub const DROPPED_MODEL: &str = "anim 1
+const DROPPED_MODEL: &str = "anim 1
 main
 timeline 1 0
 element 1 1000000 none
@@ -113,7 +113,7 @@ end
 ";
 
 /// A group of two models, and one that waits for it.
-pub const TWO_GROUPS: &str = "anim 1
+const TWO_GROUPS: &str = "anim 1
 main
 timeline 1 0
 element 1 1000000 none

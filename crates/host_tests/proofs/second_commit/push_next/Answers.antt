@@ -5,9 +5,9 @@ use Rattle.tree_commit.specs.Follows.{Follows, KnowsAtMost}
 use Rattle.tree_commit.specs.Marks.{event_of}
 use Rattle.tree_commit.specs.Runs.{model_of_event}
 use Rattle.tree_commit.specs.Trees.{Committed, has_model}
-use Rattle.tree_tests.specs.Steps.{GroupsAgree}
-use Rattle.tree_tests.proofs.NextCommits.{follows_next, room_next}
-use Rattle.tree_tests.proofs.second_commit.push_next.Goals as goal
+use Rattle.host_tests.specs.Steps.{GroupsAgree}
+use Rattle.host_tests.proofs.NextCommits.{follows_next, room_next}
+use Rattle.host_tests.proofs.second_commit.push_next.Goals as goal
 
 pub push_commit-requires-clause-follows : goal.push_commit-requires-clause-follows
 push_commit-requires-clause-follows g c =

@@ -1,5 +1,5 @@
-use Rattle.tree_tests.proofs.NextCommits.{new_further}
-use Rattle.tree_tests.proofs.second_commit.make_small_edits.Goals as goal
+use Rattle.host_tests.proofs.NextCommits.{new_further}
+use Rattle.host_tests.proofs.second_commit.make_small_edits.Goals as goal
 
 pub loop-step-preserved : goal.loop-step-preserved
 loop-step-preserved g c =

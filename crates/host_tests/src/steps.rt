@@ -11,7 +11,7 @@ ghost use Rattle.micro_time.specs.declared.TheConstants.{LARGEST_LOCAL};
 ghost use Rattle.tree_commit.specs.Follows.{AgreeAsGroup};
 ghost use Rattle.tree_commit.specs.Frames.{LocalTimesFit};
 ghost use Rattle.tree_commit.specs.Trees.{empty_commit, local_time};
-ghost use Rattle.tree_tests.specs.Steps.{GroupsAgree, KeepsCommits};
+ghost use Rattle.host_tests.specs.Steps.{GroupsAgree, KeepsCommits};
 
 use active_tree::ActiveTree;
 use anim_host::AnimHost;

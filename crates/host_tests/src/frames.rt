@@ -2,9 +2,8 @@
 
 ghost use Rattle.std.specs.Prelude.{◌≡◌, ◌≤◌, [], None, OnOk};
 ghost use Rattle.tree_commit.specs.Trees.{empty_commit};
-ghost use Rattle.tree_tests.specs.Steps.{KeepsCommits};
+ghost use Rattle.host_tests.specs.Steps.{KeepsCommits};
 
-use crate::scripts::TWO_GROUPS;
 use crate::steps::{begin, only_commit, tick};
 use active_tree::ActiveTree;
 use anim_host::AnimHost;
@@ -180,6 +179,33 @@ fn of_two_groups_on_one_property_the_first_starts_alone(rt: HostRuntime) -> Resu
     let ticks = [Ticked(0, &[Told::Started(1, 1, 0, 0)], Some(Row(0, None)))];
     expect_script(&rt, rt.alloc(), TWO_FADES, &ticks)
 }
+
+// A group of two models, and one that waits for it.
+const TWO_GROUPS: &str = "anim 1
+main
+timeline 1 0
+element 1 1000000 none
+model 1 1 1 1 opacity - 0 1000 0 normal none 1000 auto linear 2
+key 0 linear 0
+key 1000 linear 1000000
+model 2 1 1 1 transform - 0 1000 0 normal none 1000 auto linear 2
+key 0 linear translate:0:0:0
+key 3000 linear translate:3000:0:0
+model 3 2 1 1 opacity - 0 1000 0 normal none 1000 auto linear 2
+key 0 linear 500000
+key 1000 linear 0
+commit
+compositor
+pull
+activate
+tick 0
+tick 1000
+tick 2000
+tick 3000
+tick 4000
+word MMMMMMCCCCCCC
+end
+";
 
 // Group 1 is done with its longer model, and then group 2 starts.
 #[test]

@@ -5,7 +5,7 @@ ghost use Rattle.anim_host.specs.Hosting.{after_push};
 ghost use Rattle.tree_commit.specs.Runs.{model_of_event};
 ghost use Rattle.tree_commit.specs.Trees.{has_model};
 ghost use Rattle.tree_commit.specs.Views.{change_of};
-ghost use Rattle.tree_tests.specs.Steps.{OnlyElementsAreNew, adds_elements_alone};
+ghost use Rattle.host_tests.specs.Steps.{OnlyElementsAreNew, adds_elements_alone};
 
 use crate::steps::{expect_groups, make_edits, next_commit};
 use anim_host::AnimHost;

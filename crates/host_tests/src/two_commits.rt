@@ -3,10 +3,9 @@
 ghost use Rattle.std.specs.Prelude.{◌≡◌, ◌≤◌, None, Some, OnOk};
 ghost use Rattle.anim_host.specs.Hosting.{after_push, new_hosting};
 ghost use Rattle.tree_commit.specs.Trees.{empty_commit};
-ghost use Rattle.tree_tests.specs.Steps.{OnlyElementsAreNew};
+ghost use Rattle.host_tests.specs.Steps.{OnlyElementsAreNew};
 
 use crate::frames::{Row, Ticked, Told, expect_news, expect_tick};
-use crate::scripts::{DROPPED_ELEMENT, DROPPED_MODEL, LATE_ELEMENT};
 use crate::second_commit::{first_two, push_next};
 use crate::steps::{activate, begin};
 use active_tree::ActiveTree;
@@ -60,6 +59,30 @@ fn expect_activation(
 
 // ---- an element that comes
 
+// The element of two models comes with the second commit.
+const LATE_ELEMENT: &str = "anim 1
+main
+timeline 1 0
+model 1 1 1 1 opacity - 0 1000 0 normal none 1000 auto linear 2
+key 0 linear 250000
+key 1000 linear 1000000
+model 2 1 1 1 transform - 0 1000 0 normal none 1000 auto linear 2
+key 0 linear translate:5:0:0
+key 1000 linear translate:9:0:0
+commit
+element 1 1000000 none
+commit
+compositor
+pull
+activate
+tick 1000
+pull
+activate
+tick 2000
+word MMMMCCCMMCCC
+end
+";
+
 #[test]
 fn a_group_starts_once_its_element_is_there(rt: HostRuntime) -> Result<(), Fail> {
     let (first, second) = first_two(&rt, rt.alloc(), LATE_ELEMENT)?;
@@ -99,6 +122,28 @@ fn expect_late_element(
 
 // ---- what goes
 
+// An element goes while its model waits.
+const DROPPED_ELEMENT: &str = "anim 1
+main
+timeline 1 0
+element 1 1000000 none
+model 1 1 1 1 opacity - 0 1000 0 normal none 1000 auto linear 2
+key 0 linear 0
+key 1000000 linear 1000000
+commit
+drop-element 1
+commit
+compositor
+pull
+activate
+pull
+tick 1000
+activate
+tick 2000
+word MMMMCCMMCCCC
+end
+";
+
 // An element that is gone from the pending commit holds its group back. A model that waits is not aborted.
 #[test]
 fn a_group_waits_for_the_pending_commit_too(rt: HostRuntime) -> Result<(), Fail> {
@@ -108,6 +153,28 @@ fn a_group_waits_for_the_pending_commit_too(rt: HostRuntime) -> Result<(), Fail>
     ];
     expect_script(&rt, rt.alloc(), DROPPED_ELEMENT, ticks, &[])
 }
+
+// A model goes while it runs.
+const DROPPED_MODEL: &str = "anim 1
+main
+timeline 1 0
+element 1 1000000 none
+model 1 1 1 1 opacity - 0 1000 0 normal none 1000 auto linear 2
+key 0 linear 0
+key 1000000 linear 1000000
+commit
+drop-model 1
+commit
+compositor
+pull
+activate
+pull
+tick 1000
+activate
+tick 2000
+word MMMMCCMMCCCC
+end
+";
 
 // A model that is gone from the pending commit starts all the same, and is aborted once that commit is active.
 #[test]
