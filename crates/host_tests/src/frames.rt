@@ -55,7 +55,7 @@ fn event_of(told: Told) -> AnimEvent {
     }
 }
 
-// These are the news behind the first so many.
+// These are the news behind this many earlier ones.
 pub fn expect_news(rt: &impl Abort, host: &AnimHost, before: usize, told: &[Told]) {
     let news = host.news();
     assert!(rt; before <= news.len());

@@ -143,7 +143,7 @@ fn expect_ticks(rt: &impl Abort, host: &mut AnimHost, commit: &Commit) -> Result
     expect_tick(rt, host, commit, DURATION + 2001, 0)
 }
 
-// The tick makes so many marks.
+// The tick makes this many marks.
 fn expect_tick(
     rt: &impl Abort,
     host: &mut AnimHost,
