@@ -111,7 +111,7 @@ impl Gate for HoldGate {
     }
 }
 
-/// Two lanes, each of which comes to a place once and looks whether the other has come to its own.
+/// Two lanes, each of which comes once and looks whether the other has come.
 #[derive(Drop)]
 struct Meeting {
     main: Arrival,

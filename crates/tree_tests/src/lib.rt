@@ -14,18 +14,12 @@ mod commits;
 #[cfg(test)]
 mod edits;
 #[cfg(test)]
-mod frames;
-#[cfg(test)]
 mod generated;
 #[cfg(test)]
 mod hearing;
 #[cfg(test)]
-mod host;
-#[cfg(test)]
 mod samples;
 #[cfg(test)]
 mod scripts;
-#[cfg(test)]
-mod steps;
 #[cfg(test)]
 mod trees;

@@ -19,8 +19,8 @@ use transform_ops::{TransformList, TransformOp};
 use tree_commit::{Base, Commit, Edit};
 use value_blend::Opacity;
 
-/// How long every model lasts, in microseconds.
-pub const DURATION: u64 = 100_000;
+// How long every model lasts, in microseconds.
+const DURATION: u64 = 100_000;
 
 /// The ids of a model, of its group, of its element and of its timeline.
 #[derive(Clone, Copy)]
@@ -143,14 +143,9 @@ pub fn set_transform(alloc: Global, id: u32) -> Result<Edit, Fail> {
 
 /// Adds a timeline that shows 0 at tick 0.
 pub fn add_timeline(id: u32) -> Result<Edit, Fail> {
-    add_timeline_from(id, 0)
-}
-
-/// Adds a timeline that shows 0 at this tick.
-pub fn add_timeline_from(id: u32, zero: u64) -> Result<Edit, Fail> {
     Ok(Edit::AddTimeline {
         id: TimelineId(id),
-        timeline: Timeline::new(zero).ok_or("no timeline")?,
+        timeline: Timeline::new(0).ok_or("no timeline")?,
     })
 }
 

@@ -113,7 +113,7 @@ end
 ";
 
 /// A group of two models, and one that waits for it.
-pub const TWO_GROUPS: &str = "anim 1
+const TWO_GROUPS: &str = "anim 1
 main
 timeline 1 0
 element 1 1000000 none

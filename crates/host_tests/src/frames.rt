@@ -2,8 +2,8 @@
 
 ghost use Rattle.std.specs.Prelude.{◌≡◌, ◌≤◌, [], None, OnOk};
 ghost use Rattle.tree_commit.specs.Trees.{empty_commit};
+ghost use Rattle.host_tests.specs.Steps.{KeepsCommits};
 
-use crate::scripts::TWO_GROUPS;
 use crate::steps::{begin, only_commit, tick};
 use active_tree::ActiveTree;
 use anim_host::AnimHost;
@@ -32,9 +32,9 @@ pub enum Told {
 #[derive(Clone, Copy)]
 pub struct Row(pub u32, pub Option<i64>);
 
-// A tick, the news that it makes, and the row of element 1 in its frame.
+// A tick, the news that it makes, and the row of element 1 in its frame, where the frame has one.
 #[derive(Clone, Copy)]
-pub struct Ticked<'a>(pub u64, pub &'a [Told], pub Row);
+pub struct Ticked<'a>(pub u64, pub &'a [Told], pub Option<Row>);
 
 fn event_of(told: Told) -> AnimEvent {
     match told {
@@ -55,7 +55,7 @@ fn event_of(told: Told) -> AnimEvent {
     }
 }
 
-// These are the news behind the first so many.
+// These are the news behind this many earlier ones.
 pub fn expect_news(rt: &impl Abort, host: &AnimHost, before: usize, told: &[Told]) {
     let news = host.news();
     assert!(rt; before <= news.len());
@@ -76,8 +76,15 @@ fn expect_list(rt: &impl Abort, list: &TransformList, x: Option<i64>) {
     }
 }
 
-pub fn expect_row(rt: &impl Abort, frame: &Frame, time: u64, row: Row) {
+fn expect_frame(rt: &impl Abort, frame: &Frame, time: u64, row: Option<Row>) {
     assert!(rt; frame.time() == time);
+    match row {
+        None => assert!(rt; frame.row_count() == 0),
+        Some(row) => expect_row(rt, frame, row),
+    }
+}
+
+fn expect_row(rt: &impl Abort, frame: &Frame, row: Row) {
     assert!(rt; frame.row_count() == 1);
     let drawn = frame.row(0);
     assert!(rt; drawn.element == ElementId(1));
@@ -87,20 +94,22 @@ pub fn expect_row(rt: &impl Abort, frame: &Frame, time: u64, row: Row) {
 
 // ---- ticks
 
-fn expect_tick(
+pub fn expect_tick(
     rt: &impl Abort,
     host: &mut AnimHost,
     active: &mut ActiveTree,
     ticked: Ticked,
 ) -> Result<(), AllocError>
     requires { active.old ≡ host.old.active }
-    ensures { active.new ≡ host.new.active }
+    ensures host { KeepsCommits host.old host.new }
+    ensures active { active.new ≡ active.old }
 {
     let Ticked(time, told, row) = ticked;
     let before = host.news().len();
     let frame = tick(rt, host, active, time)?;
     expect_news(rt, host, before, told);
-    expect_row(rt, &frame, time, row);
+    assert!(rt; frame.commit() == active.commit().number());
+    expect_frame(rt, &frame, time, row);
     Ok(())
 }
 
@@ -167,9 +176,36 @@ end
 
 #[test]
 fn of_two_groups_on_one_property_the_first_starts_alone(rt: HostRuntime) -> Result<(), Fail> {
-    let ticks = [Ticked(0, &[Told::Started(1, 1, 0, 0)], Row(0, None))];
+    let ticks = [Ticked(0, &[Told::Started(1, 1, 0, 0)], Some(Row(0, None)))];
     expect_script(&rt, rt.alloc(), TWO_FADES, &ticks)
 }
+
+// A group of two models, and one that waits for it.
+const TWO_GROUPS: &str = "anim 1
+main
+timeline 1 0
+element 1 1000000 none
+model 1 1 1 1 opacity - 0 1000 0 normal none 1000 auto linear 2
+key 0 linear 0
+key 1000 linear 1000000
+model 2 1 1 1 transform - 0 1000 0 normal none 1000 auto linear 2
+key 0 linear translate:0:0:0
+key 3000 linear translate:3000:0:0
+model 3 2 1 1 opacity - 0 1000 0 normal none 1000 auto linear 2
+key 0 linear 500000
+key 1000 linear 0
+commit
+compositor
+pull
+activate
+tick 0
+tick 1000
+tick 2000
+tick 3000
+tick 4000
+word MMMMMMCCCCCCC
+end
+";
 
 // Group 1 is done with its longer model, and then group 2 starts.
 #[test]
@@ -181,11 +217,11 @@ fn a_group_starts_once_the_one_before_it_is_done(rt: HostRuntime) -> Result<(), 
         Told::Started(3, 2, 3000, 3000),
     ];
     let ticks = [
-        Ticked(0, &starts, Row(0, Some(0))),
-        Ticked(1000, &[], Row(1_000_000, Some(999))),
-        Ticked(2000, &[], Row(1_000_000, Some(1999))),
-        Ticked(3000, &changes, Row(500_000, None)),
-        Ticked(4000, &[Told::Finished(3, 4000)], Row(1_000_000, None)),
+        Ticked(0, &starts, Some(Row(0, Some(0)))),
+        Ticked(1000, &[], Some(Row(1_000_000, Some(999)))),
+        Ticked(2000, &[], Some(Row(1_000_000, Some(1999)))),
+        Ticked(3000, &changes, Some(Row(500_000, None))),
+        Ticked(4000, &[Told::Finished(3, 4000)], Some(Row(1_000_000, None))),
     ];
     expect_script(&rt, rt.alloc(), TWO_GROUPS, &ticks)
 }
@@ -223,7 +259,11 @@ const FILLS: [(&str, u32); 2] = [(FILLED_BEFORE, 250_000), (FILLED_BEHIND, 1_000
 #[test]
 fn before_a_given_start_the_first_value_stands_by_the_fill(rt: HostRuntime) -> Result<(), Fail> {
     for (text, opacity) in FILLS {
-        let ticks = [Ticked(2000, &[Told::Started(1, 1, 2000, 5000)], Row(opacity, None))];
+        let ticks = [Ticked(
+            2000,
+            &[Told::Started(1, 1, 2000, 5000)],
+            Some(Row(opacity, None)),
+        )];
         expect_script(&rt, rt.alloc(), text, &ticks)?;
     }
     Ok(())

@@ -3,8 +3,8 @@ use Rattle.std.specs.List.{slice_get}
 use Rattle.std.proofs.lemmas.Option.{slice_get_within}
 use Rattle.keyframe_model.specs.Models.{Spec}
 use Rattle.tree_commit.specs.Follows.{AgreeAsGroup}
-use Rattle.tree_tests.proofs.Places.{one-more, place-of}
-use Rattle.tree_tests.proofs.steps.expect_groups.Goals as goal
+use Rattle.host_tests.proofs.Places.{one-more, place-of}
+use Rattle.host_tests.proofs.steps.expect_groups.Goals as goal
 
 pub loop-i-preserved : goal.loop-i-preserved
 loop-i-preserved g c =

@@ -4,7 +4,7 @@ use Rattle.std.specs.Option.{option_copied}
 use Rattle.std.proofs.lemmas.Int.{ints}
 use Rattle.tree_commit.specs.Trees.{local_time}
 use Rattle.tree_commit.proofs.SamplingLemmas.{local_time-found}
-use Rattle.tree_tests.proofs.steps.local_time.Goals as goal
+use Rattle.host_tests.proofs.steps.local_time.Goals as goal
 
 pub returns : goal.returns
 returns g c =

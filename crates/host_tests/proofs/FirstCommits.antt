@@ -10,7 +10,7 @@ use Rattle.tree_commit.specs.Trees.{Committed, TreeLists, empty_commit, empty_tr
 use Rattle.tree_commit.specs.Follows.{Follows, IsKnown, has_mark}
 use Rattle.anim_host.specs.Hosting.{HasRoomFor, Hosting}
 use Rattle.run_laws.proofs.AddedModels.{distinct_within}
-use Rattle.tree_tests.specs.Steps.{GroupsAgree}
+use Rattle.host_tests.specs.Steps.{GroupsAgree}
 
 follows-empty : (tree : TreeLists) → GroupsAgree tree → Follows empty_tree tree []
 follows-empty tree agree = record {

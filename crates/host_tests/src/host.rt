@@ -1,48 +1,50 @@
-//! The compositor's host, over commits of main's tree: tick, step, expect.
+//! What a start records, and when a model finishes: tick, step, expect.
 
 ghost use Rattle.std.specs.Prelude.{◌≡◌, ◌≤◌, [], None, OnOk};
 ghost use Rattle.tree_commit.specs.Trees.{empty_commit};
 
-use crate::samples::{self, Names};
-use crate::steps::push_first;
+use crate::steps::{only_commit, push_first};
 use anim_host::AnimHost;
-use anim_names::limit::MOST_COMMITS;
-use anim_names::{AnimEvent, GroupId, ModelId, Property};
+use anim_names::{AnimEvent, GroupId, ModelId};
 use anim_timeline::LAST_TIME;
-use main_tree::MainTree;
 use std::alloc::{AllocError, Global};
 use std::process::Abort;
 use std::sync::Arc;
 use std::test::Fail;
-use tree_commit::{Commit, Edit, Shown, StartTable};
+use tree_commit::{Commit, Shown, StartTable};
 
-// ---- commits
+// ---- scripts
 
-fn make(rt: &impl Abort, main: &mut MainTree, edit: Edit) {
-    assert!(rt; main.edit(&edit) == Ok(true));
-}
+// How long the model lasts, in microseconds.
+const DURATION: u64 = 100_000;
 
-// A commit with element 1 and a timeline that shows 0 at 1000, and with a model of the two that fades the element in,
-// with this given start or none.
-fn fading(rt: &impl Abort, alloc: Global, start: Option<u32>) -> Result<Arc<Commit>, Fail> {
-    let mut main = MainTree::new(alloc)?;
-    fill(rt, alloc, &mut main, start)?;
-    assert!(rt; main.commits() < MOST_COMMITS);
-    Ok(main.commit()?)
-}
+// A model that fades element 1 in, on a timeline that shows 0 at 1000.
+const FADE: &str = "anim 1
+main
+timeline 1 1000
+element 1 1000000 none
+model 1 1 1 1 opacity - 0 1000 0 normal none 1000 auto linear 2
+key 0 linear 0
+key 100000 linear 1000000
+commit
+compositor
+word MMMM
+end
+";
 
-fn fill(
-    rt: &impl Abort,
-    alloc: Global,
-    main: &mut MainTree,
-    start: Option<u32>,
-) -> Result<(), Fail> {
-    make(rt, main, samples::add_element(alloc, 1)?);
-    make(rt, main, samples::add_timeline_from(1, 1000)?);
-    let spec = samples::model(rt, alloc, Names(1, 1, 1, 1), start, Property::Opacity)?;
-    make(rt, main, Edit::AddModel { spec });
-    Ok(())
-}
+// The same, with a given start.
+const FADE_AT_5000: &str = "anim 1
+main
+timeline 1 1000
+element 1 1000000 none
+model 1 1 1 1 opacity 5000 0 1000 0 normal none 1000 auto linear 2
+key 0 linear 0
+key 100000 linear 1000000
+commit
+compositor
+word MMMM
+end
+";
 
 // ---- steps
 
@@ -77,19 +79,19 @@ fn tick(rt: &impl Abort, host: &mut AnimHost, commit: &Commit, time: u64) -> Res
 
 // ---- tests
 
-// What the first tick of a model records, by its given start: the timeline shows 0 at 1000.
-const STARTS: [(Option<u32>, u64, i64); 3] = [
-    (None, 2000, 1000),
-    (None, 500, -500),
-    (Some(5000), 2000, 5000),
+// What the first tick of a model records.
+const STARTS: [(&str, u64, i64); 3] = [
+    (FADE, 2000, 1000),
+    (FADE, 500, -500),
+    (FADE_AT_5000, 2000, 5000),
 ];
 
 #[test]
 fn the_recorded_start_is_the_given_one_or_what_the_timeline_shows(
     rt: HostRuntime,
 ) -> Result<(), Fail> {
-    for (given, time, start) in STARTS {
-        expect_start(&rt, rt.alloc(), given, time, start)?;
+    for (text, time, start) in STARTS {
+        expect_start(&rt, rt.alloc(), text, time, start)?;
     }
     Ok(())
 }
@@ -97,11 +99,11 @@ fn the_recorded_start_is_the_given_one_or_what_the_timeline_shows(
 fn expect_start(
     rt: &impl Abort,
     alloc: Global,
-    given: Option<u32>,
+    text: &str,
     time: u64,
     start: i64,
 ) -> Result<(), Fail> {
-    let commit = fading(rt, alloc, given)?;
+    let commit = only_commit(rt, alloc, text)?;
     let mut host = AnimHost::new(alloc, 4)?;
     begin(rt, alloc, &mut host, &commit)?;
     tick(rt, &mut host, &commit, time)?;
@@ -124,7 +126,7 @@ fn expect_started(rt: &impl Abort, host: &AnimHost, at: u64, start: i64) {
 
 #[test]
 fn a_model_finishes_once(rt: HostRuntime) -> Result<(), Fail> {
-    let commit = fading(&rt, rt.alloc(), None)?;
+    let commit = only_commit(&rt, rt.alloc(), FADE)?;
     let mut host = AnimHost::new(rt.alloc(), 4)?;
     begin(&rt, rt.alloc(), &mut host, &commit)?;
     expect_ticks(&rt, &mut host, &commit)?;
@@ -136,12 +138,12 @@ fn expect_ticks(rt: &impl Abort, host: &mut AnimHost, commit: &Commit) -> Result
     requires { host.old.active ≡ commit.now }
 {
     expect_tick(rt, host, commit, 2000, 1)?;
-    expect_tick(rt, host, commit, samples::DURATION + 1999, 0)?;
-    expect_tick(rt, host, commit, samples::DURATION + 2000, 1)?;
-    expect_tick(rt, host, commit, samples::DURATION + 2001, 0)
+    expect_tick(rt, host, commit, DURATION + 1999, 0)?;
+    expect_tick(rt, host, commit, DURATION + 2000, 1)?;
+    expect_tick(rt, host, commit, DURATION + 2001, 0)
 }
 
-// The tick makes so many marks.
+// The tick makes this many marks.
 fn expect_tick(
     rt: &impl Abort,
     host: &mut AnimHost,

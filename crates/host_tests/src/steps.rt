@@ -1,7 +1,7 @@
 //! Steps of the compositor's host and of an active tree beside it, over commits of scripts.
 
-ghost use Rattle.std.specs.Prelude.{◌≡◌, ◌≤◌, ◌-ℤ◌, ℕ, [], None, Some, IfSome, IsTrue, OnOk, length, slice_get, unsigned_abs};
-ghost use Rattle.anim_host.specs.Hosting.{shown_in};
+ghost use Rattle.std.specs.Prelude.{◌≡◌, ◌≤◌, ◌-ℤ◌, ℕ, [], None, Some, IfSome, IfOk, IsTrue, OnOk, length, slice_get, unsigned_abs};
+ghost use Rattle.anim_host.specs.Hosting.{after_activation, shown_in};
 ghost use Rattle.anim_timeline.specs.Timelines.{IsTime};
 ghost use Rattle.anim_timeline.specs.declared.TheConstants.{LAST_TIME};
 ghost use Rattle.easing_fixed.specs.Evaluators.{MayEase, Eases};
@@ -11,7 +11,7 @@ ghost use Rattle.micro_time.specs.declared.TheConstants.{LARGEST_LOCAL};
 ghost use Rattle.tree_commit.specs.Follows.{AgreeAsGroup};
 ghost use Rattle.tree_commit.specs.Frames.{LocalTimesFit};
 ghost use Rattle.tree_commit.specs.Trees.{empty_commit, local_time};
-ghost use Rattle.tree_tests.specs.Steps.{GroupsAgree, KeepsCommits};
+ghost use Rattle.host_tests.specs.Steps.{GroupsAgree, KeepsCommits};
 
 use active_tree::ActiveTree;
 use anim_host::AnimHost;
@@ -38,7 +38,8 @@ pub fn only_commit(rt: &impl Abort, alloc: Global, text: &str) -> Result<Arc<Com
     next_commit(rt, &mut main)
 }
 
-fn make_edits(rt: &impl Abort, main: &mut MainTree, steps: &[MainStep]) {
+/// Makes the edits among these steps.
+pub fn make_edits(rt: &impl Abort, main: &mut MainTree, steps: &[MainStep]) {
     for step in steps {
         if let MainStep::Edit(edit) = step {
             assert!(rt; main.edit(edit) == Ok(true));
@@ -46,7 +47,11 @@ fn make_edits(rt: &impl Abort, main: &mut MainTree, steps: &[MainStep]) {
     }
 }
 
-fn next_commit(rt: &impl Abort, main: &mut MainTree) -> Result<Arc<Commit>, Fail> {
+/// The commit of main's tree.
+pub fn next_commit(rt: &impl Abort, main: &mut MainTree) -> Result<Arc<Commit>, Fail>
+    ensures commit { IfOk result (λ commit. commit.value.tree ≡ main.old.tree) }
+    ensures same { main.new.tree ≡ main.old.tree }
+{
     assert!(rt; main.commits() < MOST_COMMITS);
     Ok(main.commit()?)
 }
@@ -116,12 +121,25 @@ pub fn begin(
     requires models { length commit.value.tree.models ≤ host.old.models }
     requires drawn { active.old ≡ empty_commit }
     ensures host { OnOk result (host.new.active ≡ commit.value) }
+    ensures pending { OnOk result (host.new.pending ≡ None) }
+    ensures cleared { host.new.cleared ≡ host.old.cleared }
+    ensures same { host.new.models ≡ host.old.models }
     ensures active { OnOk result (active.new ≡ commit.value) }
 {
     push_first(rt, host, &commit)?;
+    activate(host, active, commit);
+    Ok(())
+}
+
+/// Activates the pending commit, in the host and in the tree.
+pub fn activate(host: &mut AnimHost, active: &mut ActiveTree, commit: Arc<Commit>)
+    requires drawn { active.old ≡ host.old.active }
+    requires pending { host.old.pending ≡ Some commit.value }
+    ensures host { host.new ≡ after_activation host.old commit.value }
+    ensures active { active.new ≡ commit.value }
+{
     host.activate(active.commit(), &commit);
     active.set(commit);
-    Ok(())
 }
 
 /// Makes the marks of a tick and draws its frame.

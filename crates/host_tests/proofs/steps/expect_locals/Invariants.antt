@@ -5,7 +5,7 @@ use Rattle.keyframe_model.specs.Models.{Spec}
 use Rattle.anim_host.specs.Hosting.{shown_in}
 use Rattle.micro_time.specs.declared.TheConstants.{LARGEST_LOCAL}
 use Rattle.tree_commit.specs.Trees.{local_time}
-use Rattle.tree_tests.proofs.steps.expect_locals.Given as goal
+use Rattle.host_tests.proofs.steps.expect_locals.Given as goal
 
 abbrev pub invariant-loop-i : goal.invariant-loop-i
 invariant-loop-i g l =

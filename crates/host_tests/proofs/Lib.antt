@@ -1,2 +1,3 @@
 pub mod FirstCommits
+pub mod NextCommits
 pub mod Places

@@ -1,8 +1,8 @@
 use Rattle.std.proofs.Common.{subst}
 use Rattle.tree_commit.specs.Trees.{Committed}
-use Rattle.tree_tests.specs.Steps.{GroupsAgree}
-use Rattle.tree_tests.proofs.FirstCommits.{follows-first, room-first}
-use Rattle.tree_tests.proofs.steps.push_first.Goals as goal
+use Rattle.host_tests.specs.Steps.{GroupsAgree}
+use Rattle.host_tests.proofs.FirstCommits.{follows-first, room-first}
+use Rattle.host_tests.proofs.steps.push_first.Goals as goal
 
 pub push_commit-requires-clause-follows : goal.push_commit-requires-clause-follows
 push_commit-requires-clause-follows g c =
