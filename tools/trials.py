@@ -14,6 +14,8 @@ TOP = os.path.dirname(os.path.dirname(os.path.realpath(__file__)))
 SERVED = ["replay", "gen N", "load N"]
 USAGE = f"usage: cctick {' | '.join(SERVED)}\n".encode()
 IS_RUN_SERVED = "run" in SERVED
+# Those that read a script.
+READING = ["replay", "run"] if IS_RUN_SERVED else ["replay"]
 # A run that takes longer hangs.
 SECONDS = 60
 MOST_BYTES = 1 << 20
