@@ -1,3 +1,3 @@
 pub mod Moves
 pub mod Outcomes
-pub mod Starting
+pub mod Beginning

@@ -1,6 +1,7 @@
 -- What the program writes: the text of a report, of a refusal, of a script that is made and of a summary.
 use Rattle.std.specs.Prelude.{ℕ, List, [], ◌∷◌, ◌++◌, length, codes}
 use Rattle.std.specs.Fmt.{decimal}
+use Rattle.anim_names.specs.declared.lane.Lane.{Lane}
 use Rattle.anim_names.specs.declared.limit.LimitName.{LimitName}
 use Rattle.anim_names.specs.declared.limit.LimitName.TheVariants as limit
 use Rattle.frame_report.specs.Summaries.{summary_text}
@@ -55,9 +56,9 @@ refusal_text number cause =
 
 -- ---- reports, scripts and summaries
 
--- the text of the report of a script, as its word orders its steps
-abbrev pub text_of_report : ScriptLists → List ℕ
-text_of_report script = report_text (report_of script script.word)
+-- the text of the report of a script, where this word orders its steps
+abbrev pub text_of_report : ScriptLists → List Lane → List ℕ
+text_of_report script word = report_text (report_of script word)
 
 -- what `gen` writes
 abbrev pub generated_text : ℕ → List ℕ
@@ -67,4 +68,4 @@ generated_text n = script_text (generated_script n)
 abbrev pub load_text : ℕ → List ℕ
 load_text n =
     let script = generated_script n in
-    summary_text n (report_of script script.word) (length (text_of_report script))
+    summary_text n (report_of script script.word) (length (text_of_report script script.word))

@@ -1,24 +1,25 @@
 -- What a run of the program reads and writes.
 use Rattle.std.specs.Prelude.{◌≡◌, ℕ, ◌+◌, ◌^◌, ◌≤◌, ◌⊎◌, List, length, take, Option, IfSome}
+use Rattle.anim_names.specs.declared.lane.Lane.{Lane}
 use Rattle.edge_io.specs.Edges.{Gave, Took}
+use Rattle.frame_script.specs.declared.TheConstants.{MOST_BYTES}
 use Rattle.frame_script.specs.declared.cause.Cause.{Cause}
+use Rattle.frame_script.specs.declared.fault.ScriptFault.{ScriptFault}
+use Rattle.frame_script.specs.declared.fault.ScriptFault.TheVariants as fault
 use Rattle.frame_script.specs.Texts.{IsRefusedAt, Spells}
-use Rattle.tree_commit.specs.Scripts.{ScriptLists}
+use Rattle.tree_commit.specs.Scripts.{IsWordOf, ScriptLists}
+use Rattle.word_machine.specs.Laws.{KeepsLaws}
 use Rattle.anim_top.specs.declared.arguments.Command.{Command}
-use Rattle.anim_top.specs.declared.arguments.Command.TheVariants.{Replay, Gen, Load}
+use Rattle.anim_top.specs.declared.arguments.Command.TheVariants.{Run, Replay, Gen, Load}
 use Rattle.anim_top.specs.declared.status.Status.{Status}
 use Rattle.anim_top.specs.declared.status.Status.TheVariants.{Done, Refused, NoMemory}
 use Rattle.anim_top.specs.Answers.{generated_text, load_text, refusal_text, text_of_report}
 
 -- ---- reading
 
--- the most bytes that a script may have
-abbrev pub most_bytes : ℕ
-most_bytes = 2 ^ 20
-
--- the most bytes that one call reads: one more, which shows that a script is too long
+-- the most bytes that one call reads: one more than a script may have, which shows that it is too long
 abbrev pub most_read : ℕ
-most_read = most_bytes + 1
+most_read = MOST_BYTES + 1
 
 -- The source gave the bytes that this call read, and lost no other byte.
 pub record HasGiven (left after : Option (List ℕ)) : Type 0 where
@@ -31,27 +32,45 @@ pub record HasGiven (left after : Option (List ℕ)) : Type 0 where
 pub record Reads (left after : Option (List ℕ)) (bytes : List ℕ) : Type 0 where
   pub given : Gave left after bytes
   pub few : length bytes ≤ most_read
-  pub whole : length bytes ≤ most_bytes → IfSome left (λ all. all ≡ bytes)
+  pub whole : length bytes ≤ MOST_BYTES → IfSome left (λ all. all ≡ bytes)
 
 -- ---- writing
 
--- The source's bytes were read to their end, they spell a script, and the sink took that script's report.
-pub record IsReplayed (left after taken took : Option (List ℕ)) : Type 0 where
+-- which words a report of a script may be of
+abbrev pub WordsOf : Type 1
+WordsOf = ScriptLists → List Lane → Type 0
+
+-- `replay` takes the script's own word.
+abbrev pub own_word : WordsOf
+own_word script word = word ≡ script.word
+
+-- `run` finds a word of the script, in which each step of either lane has its letter; and the laws of runs are true of it.
+pub record FoundWord (script : ScriptLists) (word : List Lane) : Type 0 where
+  pub orders : IsWordOf (length script.main) (length script.compositor) word
+  pub laws : KeepsLaws script word
+
+-- The source's bytes were read to their end, they spell a script, and the sink took the report that the definitions give
+-- for that script and one of these words.
+pub record IsReported (words : WordsOf) (left after taken took : Option (List ℕ)) : Type 0 where
   pub bytes : List ℕ
   pub script : ScriptLists
+  pub word : List Lane
   pub read : Gave left after bytes
   pub whole : IfSome left (λ all. all ≡ bytes)
   pub spelled : Spells bytes script
-  pub written : Took taken took (text_of_report script)
+  pub of_word : words script word
+  pub written : Took taken took (text_of_report script word)
 
 -- The command was done: the sink took its output and nothing else.
 abbrev pub IsDone : Command → Option (List ℕ) → Option (List ℕ) → Option (List ℕ) → Option (List ℕ) → Type 0
-IsDone Replay left after taken took = IsReplayed left after taken took
+IsDone Run left after taken took = IsReported FoundWord left after taken took
+IsDone Replay left after taken took = IsReported own_word left after taken took
 IsDone (Gen n) left after taken took = Took taken took (generated_text n)
 IsDone (Load n) left after taken took = Took taken took (load_text n)
 
 -- The command reads a script from the source, and does not make one.
 abbrev pub ReadsScript : Command → Type 0
+ReadsScript Run = Unit {0}
 ReadsScript Replay = Unit {0}
 ReadsScript (Gen n) = ⊥
 ReadsScript (Load n) = ⊥
@@ -64,12 +83,14 @@ pub record IsRefused (left after taken took : Option (List ℕ)) (number : ℕ) 
   pub refused : IsRefusedAt bytes number cause
   pub written : Took taken took (refusal_text number cause)
 
--- These bytes spell a script: the answer is Done, and the text is that script's report.
-pub record AnswersScript (bytes : List ℕ) (status : Status) (text : List ℕ) : Type 0 where
+-- These bytes spell a script: the answer is Done, and the text is the report of that script and one of these words.
+pub record AnswersScript (words : WordsOf) (bytes : List ℕ) (status : Status) (text : List ℕ) : Type 0 where
   pub script : ScriptLists
+  pub word : List Lane
   pub spelled : Spells bytes script
+  pub of_word : words script word
   pub status_is : status ≡ Done
-  pub text_is : text ≡ text_of_report script
+  pub text_is : text ≡ text_of_report script word
 
 -- These bytes are refused: the answer is so too, and the text is the refusal.
 pub record AnswersRefusal (bytes : List ℕ) (status : Status) (text : List ℕ) : Type 0 where
@@ -79,23 +100,29 @@ pub record AnswersRefusal (bytes : List ℕ) (status : Status) (text : List ℕ)
   pub status_is : status ≡ Refused number cause
   pub text_is : text ≡ refusal_text number cause
 
+-- The status and the text of a reader's fault: a refusal gives its line and its cause, and want of memory has none.
+abbrev pub RefusesAs : ScriptFault → Status → List ℕ → Type 0
+RefusesAs (fault.Refused number cause) status text = (status ≡ Refused number cause) × (text ≡ refusal_text number cause)
+RefusesAs fault.NoMemory status text = ⊥
+
 -- the status and the text for these bytes
-abbrev pub IsAnswerTo : List ℕ → Status → List ℕ → Type 0
-IsAnswerTo bytes status text = AnswersScript bytes status text ⊎ AnswersRefusal bytes status text
+abbrev pub IsAnswerTo : WordsOf → List ℕ → Status → List ℕ → Type 0
+IsAnswerTo words bytes status text = AnswersScript words bytes status text ⊎ AnswersRefusal bytes status text
 
 -- The source's bytes were read, and the sink took no more than the front of their report or of their refusal.
-pub record IsReplayCutShort (left after taken took : Option (List ℕ)) : Type 0 where
+pub record IsReportCutShort (words : WordsOf) (left after taken took : Option (List ℕ)) : Type 0 where
   pub bytes : List ℕ
   pub status : Status
   pub text : List ℕ
   pub count : ℕ
   pub read : Reads left after bytes
-  pub answer : IsAnswerTo bytes status text
+  pub answer : IsAnswerTo words bytes status text
   pub written : Took taken took (take count text)
 
 -- The sink took no more than the front of the command's output.
 abbrev pub IsCutShort : Command → Option (List ℕ) → Option (List ℕ) → Option (List ℕ) → Option (List ℕ) → Type 0
-IsCutShort Replay left after taken took = IsReplayCutShort left after taken took
+IsCutShort Run left after taken took = IsReportCutShort FoundWord left after taken took
+IsCutShort Replay left after taken took = IsReportCutShort own_word left after taken took
 IsCutShort (Gen n) left after taken took = (count : ℕ) × Took taken took (take count (generated_text n))
 IsCutShort (Load n) left after taken took = (count : ℕ) × Took taken took (take count (load_text n))
 
@@ -112,6 +139,7 @@ pub record AnswersBytes (status : Status) (bytes : List ℕ) : Type 0 where
 
 -- The answer to a command over a source that has these bytes left, where it tells them, unless memory ran out.
 abbrev pub Answers : Command → Option (List ℕ) → Status → Type 0
+Answers Run left status = IfSome left (AnswersBytes status)
 Answers Replay left status = IfSome left (AnswersBytes status)
 Answers (Gen n) left status = OrNoMemory status Done
 Answers (Load n) left status = OrNoMemory status Done

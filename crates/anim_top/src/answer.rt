@@ -2,17 +2,21 @@
 
 ghost use Rattle.std.specs.Prelude.{◌≡◌, IfOk, string_bytes};
 ghost use Rattle.anim_top.specs.Answers.{refusal_text};
-ghost use Rattle.anim_top.specs.Outside.{IsAnswerTo};
+ghost use Rattle.anim_top.specs.Outside.{FoundWord, IsAnswerTo, RefusesAs, own_word};
 
 use crate::causes::cause_text;
 use crate::replaying::report_of;
+use crate::running::run_threads;
 use crate::{Hooks, Status};
 use anim_delegate::VerdictFunction;
 use easing_fixed::EasingFunction;
+use edge_io::Gate;
 use frame_report::print_report;
 use frame_script::{Cause, ScriptFault};
 use script_reader::read_script;
 use std::alloc::{AllocError, Global};
+use std::sync::Wait;
+use std::thread::Threads;
 
 /// A status, and all that is written before the program ends with it. Writing the text is the caller's part.
 #[derive(Debug, Drop)]
@@ -21,13 +25,13 @@ pub(crate) struct Answer {
     pub(crate) text: Vec<u8>,
 }
 
-/// The report of the script that the bytes spell, or their refusal.
-pub(crate) fn answer_to<F: VerdictFunction, E: EasingFunction>(
+/// The report of the script that the bytes spell, for the script's own word; or their refusal.
+pub(crate) fn replay_bytes<F: VerdictFunction, E: EasingFunction>(
     alloc: Global,
     bytes: &[u8],
     hooks: &Hooks<F, E>,
 ) -> Result<Answer, AllocError>
-    ensures { IfOk result (λ answer. IsAnswerTo bytes.now answer.status answer.text.items) }
+    ensures { IfOk result (λ answer. IsAnswerTo own_word bytes.now answer.status answer.text.items) }
 {
     match read_script(alloc, bytes) {
         Ok(script) => {
@@ -36,12 +40,47 @@ pub(crate) fn answer_to<F: VerdictFunction, E: EasingFunction>(
             let status = Status::Done;
             Ok(Answer { status, text })
         }
-        Err(ScriptFault::Refused { line, cause }) => {
+        Err(fault) => refusal(alloc, fault),
+    }
+}
+
+/// The report of the script that the bytes spell, for the word in which its lanes met; or their refusal.
+pub(crate) fn run_bytes<
+    R: Threads + Wait + Sync,
+    G: Gate + Sync,
+    F: VerdictFunction + Sync,
+    E: EasingFunction + Sync,
+>(
+    rt: &R,
+    alloc: Global,
+    bytes: &[u8],
+    gate: &G,
+    hooks: &Hooks<F, E>,
+) -> Result<Answer, AllocError>
+    ensures { IfOk result (λ answer. IsAnswerTo FoundWord bytes.now answer.status answer.text.items) }
+{
+    match read_script(alloc, bytes) {
+        Ok(script) => {
+            let report = run_threads(rt, alloc, &script, gate, hooks)?;
+            let text = print_report(alloc, &report)?;
+            let status = Status::Done;
+            Ok(Answer { status, text })
+        }
+        Err(fault) => refusal(alloc, fault),
+    }
+}
+
+// The answer to bytes that are refused.
+fn refusal(alloc: Global, fault: ScriptFault) -> Result<Answer, AllocError>
+    ensures { IfOk result (λ answer. RefusesAs fault answer.status answer.text.items) }
+{
+    match fault {
+        ScriptFault::Refused { line, cause } => {
             let text = refusal_text(alloc, line, cause)?;
             let status = Status::Refused { line, cause };
             Ok(Answer { status, text })
         }
-        Err(ScriptFault::NoMemory) => Err(AllocError),
+        ScriptFault::NoMemory => Err(AllocError),
     }
 }
 

@@ -9,6 +9,8 @@ use script_gen::MOST_GENERATED;
 /// What the arguments ask for. A number says how large a script is made.
 #[derive(Clone, Copy, Debug, PartialEq, Eq)]
 pub enum Command {
+    /// Run both lanes of the script that the source gives, each in a thread of its own, and write the report.
+    Run,
     /// Replay the script that the source gives, and write its report.
     Replay,
     /// Write the script that is made from this number.
@@ -23,6 +25,7 @@ pub(crate) fn command_of(arguments: &[String]) -> Option<Command>
     ensures known { IfSome result IsKnown }
 {
     match arguments {
+        [name] if name.as_str() == "run" => Some(Command::Run),
         [name] if name.as_str() == "replay" => Some(Command::Replay),
         [name, number] if name.as_str() == "gen" => Some(Command::Gen(elements(number)?)),
         [name, number] if name.as_str() == "load" => Some(Command::Load(elements(number)?)),

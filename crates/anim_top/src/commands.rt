@@ -3,10 +3,10 @@
 ghost use Rattle.std.specs.Prelude.{◌≡◌, ◌≢◌, ◌↔◌, ◌⊎◌, ◌≤◌, ℕ, None, map, take, IfSome, IsSomeAnd, IsOkAnd, string_bytes};
 ghost use Rattle.edge_io.specs.Edges.{HasRisen, Took};
 ghost use Rattle.frame_script.specs.declared.cause.Cause.{Cause};
-ghost use Rattle.anim_top.specs.Commands.{command_of};
-ghost use Rattle.anim_top.specs.Outside.{Answers, AnswersBytes, HasGiven, IsCutShort, IsDone, IsRefused, IsReplayCutShort, IsReplayed, ReadsScript};
+ghost use Rattle.anim_top.specs.Commands.{command_of, plain};
+ghost use Rattle.anim_top.specs.Outside.{Answers, AnswersBytes, FoundWord, HasGiven, IsCutShort, IsDone, IsRefused, IsReportCutShort, IsReported, ReadsScript, own_word};
 
-use crate::answer::answer_to;
+use crate::answer::{replay_bytes, run_bytes};
 use crate::arguments::{Command, command_of};
 use crate::generating::{generated_text, load_text};
 use crate::intake::{ReadError, read_bytes};
@@ -14,18 +14,30 @@ use crate::outlet::write_all;
 use crate::{Hooks, Status};
 use anim_delegate::VerdictFunction;
 use easing_fixed::EasingFunction;
-use edge_io::{Sink, Source};
+use edge_io::{Gate, Sink, Source};
 use std::alloc::{AllocError, Global};
+use std::sync::Wait;
+use std::thread::Threads;
 
-/// Does what the arguments ask for, as [`plain_command`] does. The number of the status is what the program ends with.
+/// Does what the arguments ask for. The number of the status is what the program ends with.
 ///
-/// No command that there is asks anything of `rt`.
-pub fn command<R, S: Source, K: Sink, F: VerdictFunction, E: EasingFunction>(
-    _rt: &R,
+/// `run` reads a script from the source, runs its two lanes at once, each in a thread of its own, and writes the report, or
+/// the refusal of the first line that is refused. Before each step of a lane the lane passes the gate. `run` may wait for
+/// the lock between the lanes. All else is done by [`plain_command`].
+pub fn command<
+    R: Threads + Wait + Sync,
+    S: Source,
+    K: Sink,
+    G: Gate + Sync,
+    F: VerdictFunction + Sync,
+    E: EasingFunction + Sync,
+>(
+    rt: &R,
     alloc: Global,
     arguments: &[String],
     source: &mut S,
     sink: &mut K,
+    gate: &G,
     hooks: &Hooks<F, E>,
 ) -> Status
     // The arguments are no command, and then nothing is read or written.
@@ -36,8 +48,10 @@ pub fn command<R, S: Source, K: Sink, F: VerdictFunction, E: EasingFunction>(
     ensures unread { IsSomeAnd (command_of (map string_bytes arguments.now)) (λ c. ¬ ReadsScript c)
         → (source.new ≡ source.old) × (result ≢ Status.ReadFault) }
 
-    // The command was done, and the sink took its output and nothing else. Of `replay` that is the report of the script
-    // that the source's bytes spell, which were read to their end.
+    // The command was done, and the sink took its output and nothing else. The source's bytes, read to their end, spell a
+    // script. Of `run` the output is the report that the definitions give for that script and some word of it, which orders
+    // the steps of both lanes; and the laws of runs are true of that word. Of `replay` it is the report for the script's own
+    // word.
     ensures done { result ≡ Status.Done → IsSomeAnd (command_of (map string_bytes arguments.now)) (λ c.
         IsDone c (S.left source.old) (S.left source.new) (K.taken sink.old) (K.taken sink.new)) }
 
@@ -60,7 +74,11 @@ pub fn command<R, S: Source, K: Sink, F: VerdictFunction, E: EasingFunction>(
     ensures source_counts { S.faults source.old ≤ S.faults source.new }
     ensures sink_counts { K.faults sink.old ≤ K.faults sink.new }
 {
-    plain_command(alloc, arguments, source, sink, hooks)
+    if command_of(arguments) == Some(Command::Run) {
+        run_source(rt, alloc, source, sink, gate, hooks)
+    } else {
+        plain_command(alloc, arguments, source, sink, hooks)
+    }
 }
 
 /// Does what the arguments ask for, reading from the source and writing to the sink.
@@ -75,61 +93,70 @@ pub fn plain_command<S: Source, K: Sink, F: VerdictFunction, E: EasingFunction>(
     sink: &mut K,
     hooks: &Hooks<F, E>,
 ) -> Status
-    // The arguments are no command, and then nothing is read or written.
-    ensures usage { (result ≡ Status.Usage) ↔ (command_of (map string_bytes arguments.now) ≡ None) }
+    // The arguments are none of these commands, and then nothing is read or written.
+    ensures usage { (result ≡ Status.Usage) ↔ (plain (command_of (map string_bytes arguments.now)) ≡ None) }
     ensures untouched { result ≡ Status.Usage → (source.new ≡ source.old) × (sink.new ≡ sink.old) }
 
     // A command that makes its script leaves the source as it is, and so meets no fault of it.
-    ensures unread { IsSomeAnd (command_of (map string_bytes arguments.now)) (λ c. ¬ ReadsScript c)
+    ensures unread { IsSomeAnd (plain (command_of (map string_bytes arguments.now))) (λ c. ¬ ReadsScript c)
         → (source.new ≡ source.old) × (result ≢ Status.ReadFault) }
 
     // The command was done, and the sink took its output and nothing else. Of `replay` that is the report of the script
     // that the source's bytes spell, which were read to their end.
-    ensures done { result ≡ Status.Done → IsSomeAnd (command_of (map string_bytes arguments.now)) (λ c.
+    ensures done { result ≡ Status.Done → IsSomeAnd (plain (command_of (map string_bytes arguments.now))) (λ c.
         IsDone c (S.left source.old) (S.left source.new) (K.taken sink.old) (K.taken sink.new)) }
 
     // A script was read, the bytes are refused at this line for this cause, and the sink took the refusal and nothing else.
     ensures refused { (line : ℕ) (cause : Cause) → result ≡ Status.Refused line cause
-        → IsSomeAnd (command_of (map string_bytes arguments.now)) ReadsScript
+        → IsSomeAnd (plain (command_of (map string_bytes arguments.now))) ReadsScript
         × IsRefused (S.left source.old) (S.left source.new) (K.taken sink.old) (K.taken sink.new) line cause }
 
     // A fault is a fault of the outside.
     ensures read_fault { result ≡ Status.ReadFault → HasRisen (S.faults source.old) (S.faults source.new)
         × HasGiven (S.left source.old) (S.left source.new) × (sink.new ≡ sink.old) }
     ensures write_fault { result ≡ Status.WriteFault → HasRisen (K.faults sink.old) (K.faults sink.new)
-        × IsSomeAnd (command_of (map string_bytes arguments.now)) (λ c.
+        × IsSomeAnd (plain (command_of (map string_bytes arguments.now))) (λ c.
         IsCutShort c (S.left source.old) (S.left source.new) (K.taken sink.old) (K.taken sink.new)) }
     ensures no_memory { result ≡ Status.NoMemory → HasGiven (S.left source.old) (S.left source.new) × (sink.new ≡ sink.old) }
 
     // Where the outside has no fault, the answer is that of the command and of the bytes, unless memory ran out.
     ensures complete { ¬ HasRisen (S.faults source.old) (S.faults source.new) → ¬ HasRisen (K.faults sink.old) (K.faults sink.new)
-        → IfSome (command_of (map string_bytes arguments.now)) (λ c. Answers c (S.left source.old) result) }
+        → IfSome (plain (command_of (map string_bytes arguments.now))) (λ c. Answers c (S.left source.old) result) }
     ensures source_counts { S.faults source.old ≤ S.faults source.new }
     ensures sink_counts { K.faults sink.old ≤ K.faults sink.new }
 {
     match command_of(arguments) {
-        None => Status::Usage,
+        None | Some(Command::Run) => Status::Usage,
         Some(Command::Replay) => replay_source(alloc, source, sink, hooks),
         Some(Command::Gen(n)) => write_made(sink, generated_text(alloc, n)),
         Some(Command::Load(n)) => write_made(sink, load_text(alloc, n, hooks)),
     }
 }
 
-// Reads a script from the source, and writes its report or its refusal to the sink.
-fn replay_source<S: Source, K: Sink, F: VerdictFunction, E: EasingFunction>(
+// Reads a script from the source, and writes its report for the word in which its lanes met, or its refusal, to the sink.
+fn run_source<
+    R: Threads + Wait + Sync,
+    S: Source,
+    K: Sink,
+    G: Gate + Sync,
+    F: VerdictFunction + Sync,
+    E: EasingFunction + Sync,
+>(
+    rt: &R,
     alloc: Global,
     source: &mut S,
     sink: &mut K,
+    gate: &G,
     hooks: &Hooks<F, E>,
 ) -> Status
     ensures no_usage { result ≢ Status.Usage }
-    ensures done { result ≡ Status.Done → IsReplayed (S.left source.old) (S.left source.new) (K.taken sink.old) (K.taken sink.new) }
+    ensures done { result ≡ Status.Done → IsReported FoundWord (S.left source.old) (S.left source.new) (K.taken sink.old) (K.taken sink.new) }
     ensures refused { (line : ℕ) (cause : Cause) → result ≡ Status.Refused line cause
         → IsRefused (S.left source.old) (S.left source.new) (K.taken sink.old) (K.taken sink.new) line cause }
     ensures read_fault { result ≡ Status.ReadFault → HasRisen (S.faults source.old) (S.faults source.new)
         × HasGiven (S.left source.old) (S.left source.new) × (sink.new ≡ sink.old) }
     ensures write_fault { result ≡ Status.WriteFault → HasRisen (K.faults sink.old) (K.faults sink.new)
-        × IsReplayCutShort (S.left source.old) (S.left source.new) (K.taken sink.old) (K.taken sink.new) }
+        × IsReportCutShort FoundWord (S.left source.old) (S.left source.new) (K.taken sink.old) (K.taken sink.new) }
     ensures no_memory { result ≡ Status.NoMemory → HasGiven (S.left source.old) (S.left source.new) × (sink.new ≡ sink.old) }
     ensures complete { ¬ HasRisen (S.faults source.old) (S.faults source.new) → ¬ HasRisen (K.faults sink.old) (K.faults sink.new)
         → IfSome (S.left source.old) (AnswersBytes result) }
@@ -141,7 +168,42 @@ fn replay_source<S: Source, K: Sink, F: VerdictFunction, E: EasingFunction>(
         Err(ReadError::Fault) => return Status::ReadFault,
         Err(ReadError::NoMemory) => return Status::NoMemory,
     };
-    let Ok(answer) = answer_to(alloc, bytes.as_slice(), hooks) else {
+    let Ok(answer) = run_bytes(rt, alloc, bytes.as_slice(), gate, hooks) else {
+        return Status::NoMemory;
+    };
+    match write_all(sink, answer.text.as_slice()) {
+        Ok(()) => answer.status,
+        Err(_) => Status::WriteFault,
+    }
+}
+
+// Reads a script from the source, and writes its report for its own word, or its refusal, to the sink.
+fn replay_source<S: Source, K: Sink, F: VerdictFunction, E: EasingFunction>(
+    alloc: Global,
+    source: &mut S,
+    sink: &mut K,
+    hooks: &Hooks<F, E>,
+) -> Status
+    ensures no_usage { result ≢ Status.Usage }
+    ensures done { result ≡ Status.Done → IsReported own_word (S.left source.old) (S.left source.new) (K.taken sink.old) (K.taken sink.new) }
+    ensures refused { (line : ℕ) (cause : Cause) → result ≡ Status.Refused line cause
+        → IsRefused (S.left source.old) (S.left source.new) (K.taken sink.old) (K.taken sink.new) line cause }
+    ensures read_fault { result ≡ Status.ReadFault → HasRisen (S.faults source.old) (S.faults source.new)
+        × HasGiven (S.left source.old) (S.left source.new) × (sink.new ≡ sink.old) }
+    ensures write_fault { result ≡ Status.WriteFault → HasRisen (K.faults sink.old) (K.faults sink.new)
+        × IsReportCutShort own_word (S.left source.old) (S.left source.new) (K.taken sink.old) (K.taken sink.new) }
+    ensures no_memory { result ≡ Status.NoMemory → HasGiven (S.left source.old) (S.left source.new) × (sink.new ≡ sink.old) }
+    ensures complete { ¬ HasRisen (S.faults source.old) (S.faults source.new) → ¬ HasRisen (K.faults sink.old) (K.faults sink.new)
+        → IfSome (S.left source.old) (AnswersBytes result) }
+    ensures source_counts { S.faults source.old ≤ S.faults source.new }
+    ensures sink_counts { K.faults sink.old ≤ K.faults sink.new }
+{
+    let bytes = match read_bytes(alloc, source) {
+        Ok(bytes) => bytes,
+        Err(ReadError::Fault) => return Status::ReadFault,
+        Err(ReadError::NoMemory) => return Status::NoMemory,
+    };
+    let Ok(answer) = replay_bytes(alloc, bytes.as_slice(), hooks) else {
         return Status::NoMemory;
     };
     match write_all(sink, answer.text.as_slice()) {

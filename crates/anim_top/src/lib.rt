@@ -13,11 +13,14 @@ pub mod hooks;
 mod intake;
 mod outlet;
 mod replaying;
+pub mod running;
+mod starting;
 pub mod status;
 
 pub use arguments::Command;
 pub use commands::{command, plain_command};
 pub use hooks::Hooks;
+pub use running::run_threads;
 pub use status::Status;
 
 #[cfg(test)]

@@ -26,13 +26,13 @@ use std::thread::Threads;
 use tree_commit::Frame;
 use word_machine::close;
 
-/// Makes the steps of both lanes, each lane in a thread of its own, and then the closing drain; and gives the report, with
-/// the word in which the lanes met.
+/// Makes the steps of both lanes, the compositor's in a thread of its own beside the caller's, and then the closing drain; and
+/// gives the report, with the word in which the lanes met.
 ///
 /// The two lanes meet behind one lock round the board. It may wait for that lock. Where a lane finds no memory it ends, and
 /// the other lane goes on to its own end.
 pub fn run_lanes<
-    M: MainSteps + Send,
+    M: MainSteps,
     C: CompositorSteps + Send,
     G: Gate + Sync,
     R: Threads + Wait + Sync,
@@ -74,11 +74,12 @@ struct Desk<'a, 's> {
     seat: LaneSeat<LaneBoard<'s>>,
 }
 
-// Makes all steps of both lanes. Each lane gives its seat and its side back.
+// Makes all steps of both lanes: the compositor's in a thread of its own, and main's in this one. Each lane gives its seat and
+// its side back.
 fn join_lanes<
     'a,
     's,
-    M: MainSteps + Send,
+    M: MainSteps,
     C: CompositorSteps + Send,
     G: Gate + Sync,
     R: Threads + Wait + Sync,
@@ -110,11 +111,12 @@ fn join_lanes<
 {
     let (main_desk, main_side) = main;
     let (compositor_desk, compositor_side) = compositor;
-    thread::join(
+    let (compositor_end, main_end) = thread::join(
         rt,
-        move || whole_main(rt, alloc, main_desk, script, main_side, gate),
         move || whole_compositor(rt, alloc, compositor_desk, script, compositor_side, gate),
-    )
+        move || whole_main(rt, alloc, main_desk, script, main_side, gate),
+    );
+    (main_end, compositor_end)
 }
 
 // Main's lane, with a side of its own.
