@@ -1,5 +1,5 @@
-//! `cctick` replays the script on standard input and writes its report to standard output. It also makes large scripts
-//! from a number, and replays these.
+//! `cctick` runs or replays the script on standard input and writes its report to standard output. It also makes large
+//! scripts from a number, and replays these.
 #![tactic(auto)]
 
 ghost use Rattle.anim_delegate.specs.Delegates.{MayAsk, FollowsTable};
@@ -8,39 +8,50 @@ ghost use Rattle.easing_fixed.specs.Evaluators.{MayEase, Eases};
 use anim_delegate::{Delegate, Policy, VerdictFunction};
 use anim_top::{Hooks, Status, command};
 use easing_fixed::{Easing, EasingFunction, Evaluator};
-use edge_io::{StdSink, StdSource};
-use std::alloc::AllocError;
+use edge_io::{IdleGate, Sink, Source, StdSink, StdSource};
+use std::alloc::Global;
 use std::io::ErrorKind;
 use std::process::ExitCode;
 use std::rt::Env;
+use std::sync::Wait;
+use std::thread::Threads;
 use std::{env, io};
 
 fn main(rt: HostRuntime) -> ExitCode {
-    let status = answer(&rt);
+    let mut source = StdSource::new(rt.stdin());
+    let mut sink = StdSink::new(rt.stdout());
+    let status = match arguments_of(&rt) {
+        Ok(arguments) => answer_with(
+            &rt,
+            rt.alloc(),
+            arguments.as_slice(),
+            &mut source,
+            &mut sink,
+            Policy::verdict_on,
+            Easing::quick_value,
+        ),
+        Err(error) if error.kind() == ErrorKind::OutOfMemory => Status::NoMemory,
+        Err(_) => Status::Usage,
+    };
     if status == Status::Usage {
-        let _ = eprintln!(rt; "usage: cctick replay | gen N | load N");
+        let _ = eprintln!(rt; "usage: cctick run | replay | gen N | load N");
     }
     ExitCode::from(status.number())
 }
 
-fn answer(rt: &HostRuntime) -> Status {
-    let arguments = match arguments_of(rt) {
-        Ok(arguments) => arguments,
-        Err(error) if error.kind() == ErrorKind::OutOfMemory => return Status::NoMemory,
-        Err(_) => return Status::Usage,
-    };
-    answer_with(
-        rt,
-        arguments.as_slice(),
-        Policy::verdict_on,
-        Easing::quick_value,
-    )
-}
-
-/// Answers the arguments over the standard streams, with these two functions as hooks.
-fn answer_with<F: VerdictFunction + Drop, E: EasingFunction + Drop>(
-    rt: &HostRuntime,
+/// Answers the arguments over a source and a sink, with these two functions as hooks, and with no gate before the steps.
+fn answer_with<
+    R: Threads + Wait + Sync,
+    S: Source,
+    K: Sink,
+    F: VerdictFunction + Sync + Drop,
+    E: EasingFunction + Sync + Drop,
+>(
+    rt: &R,
+    alloc: Global,
     arguments: &[String],
+    source: &mut S,
+    sink: &mut K,
     verdict: F,
     ease: E,
 ) -> Status
@@ -53,9 +64,7 @@ fn answer_with<F: VerdictFunction + Drop, E: EasingFunction + Drop>(
         delegate: Delegate::new(verdict),
         evaluator: Evaluator::new(ease),
     };
-    let mut source = StdSource::new(rt.stdin());
-    let mut sink = StdSink::new(rt.stdout());
-    command(rt, rt.alloc(), arguments, &mut source, &mut sink, &hooks)
+    command(rt, alloc, arguments, source, sink, &IdleGate, &hooks)
 }
 
 /// The arguments after the program's name. One that is not UTF-8 is an error.
