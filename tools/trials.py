@@ -6,16 +6,16 @@ import dataclasses
 import os
 import select
 import signal
+import subprocess
 import sys
 import time
 
 TOP = os.path.dirname(os.path.dirname(os.path.realpath(__file__)))
-# The commands that the program serves, as its usage line has them. With "run" among them, each tool tries that too.
-SERVED = ["replay", "gen N", "load N"]
+# The commands that the program serves, as its usage line has them.
+SERVED = ["run", "replay", "gen N", "load N"]
 USAGE = f"usage: cctick {' | '.join(SERVED)}\n".encode()
-IS_RUN_SERVED = "run" in SERVED
 # Those that read a script.
-READING = ["replay", "run"] if IS_RUN_SERVED else ["replay"]
+READING = ["replay", "run"]
 # A run that takes longer hangs.
 SECONDS = 60
 MOST_BYTES = 1 << 20
@@ -151,6 +151,15 @@ def word_of(report):
 
 def refusal(line, cause):
     return f"refused: line {line}: {cause}\n".encode()
+
+
+def built_library(source, folder):
+    """Builds a library from this source in C, to stand between the program and the C library, and gives its path."""
+    with open(f"{folder}/between.c", "w", encoding="utf-8") as file:
+        file.write(source)
+    library = f"{folder}/between.so"
+    subprocess.run(["gcc", "-O1", "-shared", "-fPIC", "-o", library, f"{folder}/between.c"], check=True)
+    return library
 
 
 def program_at(path):
