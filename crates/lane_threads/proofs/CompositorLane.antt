@@ -1,32 +1,31 @@
 -- The compositor's lane goes on by a step: ahead of the word of the journal, or in a section of the lock.
-use Rattle.std.proofs.Common.{◌≡◌, ℕ, ◌+◌, ◌-◌, ◌*◌, ◌<◌, ◌≤◌, nat_lt, true, false, List, [], ◌∷◌, ◌++◌, drop, length, map, Option, refl, sym, ap, ◌∙◌, subst, arith, length-drop}
+use Rattle.std.proofs.Common.{◌≡◌, ℕ, ◌+◌, ◌-◌, ◌*◌, ◌<◌, ◌≤◌, nat_lt, false, List, [], ◌∷◌, ◌++◌, drop, length, map, refl, sym, ap, ◌∙◌, subst, arith, length-drop}
 use Rattle.std.proofs.lemmas.Bool.{ltb-false}
-use Rattle.std.proofs.lemmas.List.{append-nil, drop_all, length-map}
+use Rattle.std.proofs.lemmas.List.{drop_all}
 use Rattle.anim_names.specs.declared.entry.Entry.{Entry}
-use Rattle.anim_names.specs.declared.event.AnimEvent.{AnimEvent}
 use Rattle.anim_names.specs.declared.lane.Lane.{Lane}
 use Rattle.anim_names.specs.declared.lane.Lane.TheVariants.{Main, Compositor}
 use Rattle.anim_names.specs.Lists.{BeginsWith}
 use Rattle.commit_lock.specs.Journals.{entries_of}
 use Rattle.commit_lock.specs.Seats.{SeatState}
 use Rattle.frame_exchange.specs.Journals.{Exchange, word_so_far}
-use Rattle.frame_exchange.specs.Sides.{CompositorState, IsCompositorComplete, compositor_after_activation, compositor_after_send, compositor_after_tick, new_compositor, news_of}
+use Rattle.frame_exchange.specs.Sides.{CompositorState, compositor_after_activation, compositor_after_send, compositor_after_tick, new_compositor, news_of}
 use Rattle.frame_script.specs.Printing.{script_text}
 use Rattle.tree_commit.specs.declared.runs.compositor_step.CompositorStep.{CompositorStep}
 use Rattle.tree_commit.specs.declared.runs.compositor_step.CompositorStep.TheVariants.{Pull, Activate, Tick}
 use Rattle.tree_commit.specs.declared.runs.mark.Mark.{Mark}
 use Rattle.tree_commit.specs.Frames.{DrawnFrame}
 use Rattle.tree_commit.specs.Marks.{event_of}
-use Rattle.tree_commit.specs.Scripts.{IsWellFormed, ScriptLists, ticks_of}
+use Rattle.tree_commit.specs.Scripts.{IsWellFormed, ScriptLists}
 use Rattle.tree_commit.specs.Runs.{CompositorLane, after_activation, after_tick, compositor_step}
 use Rattle.word_machine.specs.Courses.{Course, board_of, compositor_of, course_after, course_of, made_with, marks_of_pending, marks_of_step}
 use Rattle.word_machine.specs.Moments.{TicksAreLeft, model_count}
-use Rattle.word_machine.specs.Turns.{AllowsStep, MayMakeCompositor, board_after_compositor, board_with_news, compositor_turned, frames_with}
+use Rattle.word_machine.specs.Turns.{MayMakeCompositor, board_after_compositor, board_with_news, compositor_turned, frames_with}
 use Rattle.word_machine.proofs.CompositorTurns.{activated-lane, activated-marks, activated-sent, board-turned_compositor, compositor-turned, event_room_after, frames-turned, last_tick_after, news-of_side, room_after_compositor, room_with, ticked-lane}
 use Rattle.word_machine.proofs.Moments.{allows-after}
 use Rattle.word_machine.proofs.Right.{course-append, course_is_right, next_compositor}
 use Rattle.word_machine.proofs.UnderWay.{bounded-next, compositor-left_next, ticks_go_on}
-use Rattle.lane_threads.specs.Knowing.{IsCompositorAhead, IsCompositorAt, IsNextOfCompositor, IsSeatOf, KnowsCompositor, marked, with_letters}
+use Rattle.lane_threads.specs.Knowing.{IsCompositorAhead, IsCompositorAt, IsNextOfCompositor, KnowsCompositor, marked, with_letters}
 use Rattle.lane_threads.specs.Sections.{MayMark}
 use Rattle.lane_threads.proofs.Halves.{HasSameCompositor, compositor-kept}
 use Rattle.lane_threads.proofs.Letters.{journal-goes_on, letters-more, letters-none, letters-one}
@@ -135,7 +134,6 @@ compositor-may script well word compositor frames step room event_room at next s
     subst (λ (c : CompositorState). MayMakeCompositor step c (board_of course room event_room)) (sym at.of_compositor) may
 
 -- ---- a step without new marks, ahead of the word
-
 
 -- the news of a side that has made its marks are the events of these
 pub news-are : (course : Course) (step : CompositorStep) (last_tick models : ℕ) → MayMark step → news_of (marked step (compositor_of course last_tick models)) ≡ map event_of (marks_of_step step course.lanes.compositor)

@@ -1,6 +1,6 @@
 -- A section of the lock in which the compositor makes its next step: what is kept behind the lock after it, and what the
 -- compositor knows.
-use Rattle.std.proofs.Common.{◌≡◌, ℕ, ◌+◌, ◌-◌, ◌*◌, ◌<◌, ◌≤◌, List, [], ◌∷◌, ◌++◌, drop, length, map, refl, sym, ap, ◌∙◌, subst, arith}
+use Rattle.std.proofs.Common.{◌≡◌, ℕ, ◌+◌, ◌-◌, ◌*◌, ◌<◌, ◌≤◌, List, [], ◌∷◌, ◌++◌, drop, length, refl, sym, ap, ◌∙◌, subst, arith}
 use Rattle.std.proofs.lemmas.List.{length-map}
 use Rattle.anim_names.specs.declared.entry.Entry.{Entry}
 use Rattle.anim_names.specs.declared.event.AnimEvent.{AnimEvent}
@@ -16,7 +16,7 @@ use Rattle.tree_commit.specs.declared.runs.compositor_step.CompositorStep.{Compo
 use Rattle.tree_commit.specs.declared.runs.compositor_step.CompositorStep.TheVariants.{Pull, Activate, Tick}
 use Rattle.tree_commit.specs.Frames.{DrawnFrame}
 use Rattle.tree_commit.specs.Marks.{event_of}
-use Rattle.tree_commit.specs.Runs.{CompositorLane, MainLane, compositor_step}
+use Rattle.tree_commit.specs.Runs.{compositor_step}
 use Rattle.word_machine.specs.Courses.{Course, board_of, course_after, course_of, marks_of_step}
 use Rattle.word_machine.specs.Moments.{model_count}
 use Rattle.word_machine.specs.Turns.{MayMakeCompositor, board_after_compositor, board_with_news, compositor_turned, frames_with}
@@ -24,7 +24,7 @@ use Rattle.word_machine.proofs.CompositorTurns.{board-turned_compositor, event_r
 use Rattle.word_machine.proofs.Moments.{events-left, new-marks}
 use Rattle.word_machine.proofs.Right.{course_is_right, next_compositor}
 use Rattle.lane_threads.specs.Keeping.{IsKeptBehindLock, ScriptBoard, course_at}
-use Rattle.lane_threads.specs.Knowing.{IsCompositorAhead, IsCompositorAt, IsNextOfCompositor, KnowsCompositor, marked, with_letters}
+use Rattle.lane_threads.specs.Knowing.{IsCompositorAhead, IsCompositorAt, IsNextOfCompositor, KnowsCompositor, with_letters}
 use Rattle.lane_threads.proofs.CompositorLane.{compositor-level, compositor-may, compositor-moved, compositor-next, compositor-within, compositor_made-after}
 use Rattle.lane_threads.proofs.Halves.{course-one, main-kept}
 use Rattle.lane_threads.proofs.Letters.{filled-up, letters-one, letters-other, letters-own, word-one_more}
@@ -63,7 +63,6 @@ marks-after course step left is =
 module _ (shared : ScriptBoard) (kept : IsKeptBehindLock shared) (silent : ℕ) (compositor : CompositorState) (frames : List DrawnFrame)
     (h : IsCompositorAhead shared.script (word_so_far shared.board.entries) silent compositor frames)
     (step : CompositorStep) (next : IsNextOfCompositor shared.script compositor.steps step) where
-
   -- the run in which the compositor is ahead
   abbrev ahead : Course
   ahead = course_of shared.script (with_letters Compositor silent (word_so_far shared.board.entries))

@@ -1,16 +1,14 @@
 -- From what the compositor knows to a section and back: what it may do there, and what it knows after it.
-use Rattle.std.proofs.Common.{◌≡◌, ℕ, ◌+◌, ◌*◌, ◌<◌, ◌≤◌, nat_lt, Bool, true, false, not, ◌||◌, ◌==◌, cond, List, [], ◌∷◌, ◌++◌, length, Option, Some, None, refl, sym, ap, ◌∙◌, subst, arith}
-use Rattle.std.specs.Prelude.{IsSomeAnd, is_none, is_some}
+use Rattle.std.proofs.Common.{◌≡◌, ℕ, ◌+◌, ◌*◌, ◌<◌, ◌≤◌, nat_lt, Bool, true, false, not, ◌||◌, ◌==◌, cond, List, [], length, Option, Some, None, refl, sym, ap, ◌∙◌, subst, arith}
+use Rattle.std.specs.Prelude.{IsSomeAnd, is_some}
 use Rattle.std.proofs.lemmas.Bool.{ltb-false}
 use Rattle.std.proofs.lemmas.List.{length-append}
-use Rattle.anim_names.specs.declared.entry.Entry.{Entry}
 use Rattle.anim_names.specs.declared.lane.Lane.TheVariants.{Main, Compositor}
 use Rattle.anim_names.specs.Lists.{BeginsWith}
 use Rattle.commit_lock.specs.Journals.{entries_of}
 use Rattle.commit_lock.specs.Seats.{SeatState, seat_after}
-use Rattle.frame_exchange.specs.Journals.{Exchange, finds_nothing, is_taken, last_pulled, published, reply_to_pull, word_so_far}
+use Rattle.frame_exchange.specs.Journals.{finds_nothing, is_taken, last_pulled, published, reply_to_pull, word_so_far}
 use Rattle.frame_exchange.specs.Sides.{CompositorState, activated, compositor_after_pull, compositor_after_send, news_of, slot_of}
-use Rattle.frame_script.specs.Printing.{script_text}
 use Rattle.tree_commit.specs.declared.runs.compositor_step.CompositorStep.{CompositorStep}
 use Rattle.tree_commit.specs.declared.runs.compositor_step.CompositorStep.TheVariants.{Pull, Activate, Tick}
 use Rattle.tree_commit.specs.Frames.{DrawnFrame}
@@ -19,9 +17,9 @@ use Rattle.tree_commit.specs.Scripts.{IsWellFormed, ScriptLists}
 use Rattle.tree_commit.specs.Trees.{Committed}
 use Rattle.word_machine.specs.Courses.{board_of, course_of}
 use Rattle.word_machine.specs.Moments.{model_count}
-use Rattle.word_machine.specs.Turns.{AllowsStep, MayMakeCompositor, MayPlace, MayTick, board_after_compositor, board_told, compositor_turned, compositor_with_reply, frames_with}
+use Rattle.word_machine.specs.Turns.{AllowsStep, MayMakeCompositor, MayPlace, MayTick, board_after_compositor, board_told, compositor_with_reply}
 use Rattle.lane_threads.specs.Keeping.{IsKeptBehindLock, ScriptBoard}
-use Rattle.lane_threads.specs.Knowing.{IsNextOfCompositor, IsSeatOf, KnowsCompositor, marked, with_letters}
+use Rattle.lane_threads.specs.Knowing.{IsNextOfCompositor, KnowsCompositor, marked, with_letters}
 use Rattle.lane_threads.specs.Sections.{HasMarked, HasPulled, MayMark, MayPull, MaySendMarks}
 use Rattle.lane_threads.proofs.CompositorLane.{compositor-found, compositor-may, knows-quiet, marked-turned, no-news}
 use Rattle.lane_threads.proofs.CompositorSection.{compositor-may_here, knows-compositor_after}
@@ -54,8 +52,15 @@ knows-no_news script well seat compositor frames h none =
     let none_here : news_of (marked h.step h.before) ≡ [] = ap news_of (sym h.is) ∙ no-news compositor none in
     let grow = marks-grow h.step h.before h.may_mark in
     let told : compositor.sent ≡ length compositor.marks =
-    omega (arith, ltb-false compositor.sent (length compositor.marks) none, grow.0, grow.1, (known-may script well seat h.before h.earlier h.step h.knows h.next).complete.told,
-    ap (λ (c : CompositorState). c.sent) h.is, ap (λ (c : CompositorState). length c.marks) h.is) in
+    omega (
+      arith,
+      ltb-false compositor.sent (length compositor.marks) none,
+      grow.0,
+      grow.1,
+      (known-may script well seat h.before h.earlier h.step h.knows h.next).complete.told,
+      ap (λ (c : CompositorState). c.sent) h.is,
+      ap (λ (c : CompositorState). length c.marks) h.is,
+    ) in
     let sent : compositor ≡ compositor_after_send compositor = ap (λ n. record compositor { sent = n }) told in
     knows-quiet script seat h.before compositor h.earlier frames h.step h.knows h.next h.may_mark none_here (sent ∙ ap compositor_after_send h.is) h.drawn
 

@@ -1,7 +1,6 @@
 -- Where both lanes have ended, their sides and the board are those of the run after the word of the journal.
-use Rattle.std.proofs.Common.{◌≡◌, ℕ, ◌+◌, ◌-◌, ◌*◌, ◌≤◌, List, [], ◌∷◌, ◌++◌, drop, length, refl, sym, ap, ◌∙◌, subst, arith, length-drop}
+use Rattle.std.proofs.Common.{◌≡◌, ℕ, ◌+◌, ◌*◌, ◌≤◌, List, [], ◌∷◌, ◌++◌, drop, length, sym, ap, ◌∙◌, subst, arith, length-drop}
 use Rattle.std.proofs.lemmas.List.{length-map}
-use Rattle.anim_names.specs.declared.entry.Entry.{Entry}
 use Rattle.anim_names.specs.declared.lane.Lane.{Lane}
 use Rattle.anim_names.specs.declared.lane.Lane.TheVariants.{Main, Compositor}
 use Rattle.anim_names.specs.Lanes.{letters_of}
@@ -22,12 +21,12 @@ use Rattle.word_machine.proofs.Keeping.{keeps_laws}
 use Rattle.word_machine.proofs.Moments.{report-made}
 use Rattle.tree_commit.specs.Scripts.{IsWellFormed, IsWordOf, ScriptLists, are_allowed, are_at_most, never_fall_from, ticks_of}
 use Rattle.tree_commit.specs.declared.runs.compositor_step.CompositorStep.{CompositorStep}
-use Rattle.word_machine.specs.Courses.{Course, board_of, course_of}
-use Rattle.word_machine.specs.Moments.{HasRoom, IsAt, IsUnderWay, model_count}
+use Rattle.word_machine.specs.Courses.{board_of, course_of}
+use Rattle.word_machine.specs.Moments.{IsAt, model_count}
 use Rattle.lane_threads.specs.Keeping.{IsKeptBehindLock, ScriptBoard, course_at}
 use Rattle.lane_threads.specs.Knowing.{HaveEnded, IsCompositorAhead, IsCompositorAt, IsMainAhead, IsMainAt, KnowsCompositor, KnowsMain, with_letters}
 use Rattle.lane_threads.proofs.CompositorLane.{compositor-ahead_of}
-use Rattle.lane_threads.proofs.Halves.{compositor-kept, main-kept}
+use Rattle.lane_threads.proofs.Halves.{compositor-kept}
 use Rattle.lane_threads.proofs.Letters.{filled-up, letters-other, letters-own}
 use Rattle.lane_threads.proofs.MainLane.{main-found, main-moved}
 
@@ -70,7 +69,6 @@ module _ (script : ScriptLists) (shared : ScriptBoard) (is : shared.script ≡ s
     (main_begins : BeginsWith shared.board.entries main_seat.seen) (main_own : entries_of main_seat.lane shared.board.entries ≡ main_seat.mine)
     (compositor_begins : BeginsWith shared.board.entries compositor_seat.seen) (compositor_own : entries_of compositor_seat.lane shared.board.entries ≡ compositor_seat.mine)
     (main_all : main.steps ≡ length script.main) (compositor_all : compositor.steps ≡ length script.compositor) where
-
   kept-here : IsKeptBehindLock (record { script = script; board = shared.board })
   kept-here = subst (λ (s : ScriptLists). IsKeptBehindLock (record { script = s; board = shared.board })) is kept
 
@@ -95,8 +93,15 @@ module _ (script : ScriptLists) (shared : ScriptBoard) (is : shared.script ≡ s
 
   compositor-letters : length script.compositor ≡ letters_of Compositor with_main + c.silent
   compositor-letters =
-      omega (arith, compositor_all, ap (λ (s : CompositorState). s.steps) compositor-ahead.at.of_compositor, compositor-ahead.made,
-      (compositor-kept script m.silent so_far).made, kept-here.compositor_made, letters-other Main m.silent so_far)
+      omega (
+        arith,
+        compositor_all,
+        ap (λ (s : CompositorState). s.steps) compositor-ahead.at.of_compositor,
+        compositor-ahead.made,
+        (compositor-kept script m.silent so_far).made,
+        kept-here.compositor_made,
+        letters-other Main m.silent so_far,
+      )
 
   word-is : word_of_journal shared.board.entries (length script.main) (length script.compositor) ≡ whole
   unfolding word_of_journal

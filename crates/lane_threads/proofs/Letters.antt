@@ -1,5 +1,5 @@
 -- Words with more letters of one lane, and the word of a journal that grows.
-use Rattle.std.proofs.Common.{◌≡◌, ℕ, zero, suc, ◌+◌, ◌-◌, ◌*◌, ◌≤◌, cond, Bool, true, false, List, [], ◌∷◌, ◌++◌, fold, length, ◌⊎◌, inl, inr, refl, sym, ap, ◌∙◌, append_assoc, subst, arith}
+use Rattle.std.proofs.Common.{◌≡◌, ℕ, ◌+◌, ◌-◌, ◌*◌, cond, true, false, List, [], ◌∷◌, ◌++◌, fold, ◌⊎◌, inl, inr, refl, sym, ap, ◌∙◌, append_assoc, arith}
 use Rattle.std.specs.Prelude.{replicate}
 use Rattle.std.proofs.lemmas.List.{append-nil, replicate-append-replicate}
 use Rattle.std.proofs.lemmas.List.Folds.{sum_by-replicate}
@@ -46,6 +46,7 @@ letters-other lane n word =
     other : (lane : Lane) → n * cond (is_lane (other_lane lane) lane) 1 0 ≡ 0
     other Main = omega arith
     other Compositor = omega arith
+
     plus-none : (k : ℕ) → k + 0 ≡ k
     plus-none k = omega arith
 

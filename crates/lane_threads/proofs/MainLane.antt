@@ -1,10 +1,8 @@
 -- Main's lane goes on by a step: ahead of the word of the journal, or in a section of the lock.
-use Rattle.std.proofs.Common.{◌≡◌, ℕ, ◌+◌, ◌-◌, ◌*◌, ◌<◌, ◌≤◌, true, List, [], ◌∷◌, ◌++◌, drop, length, refl, sym, ap, ◌∙◌, subst, arith, length-drop}
-use Rattle.std.proofs.lemmas.List.{append-nil}
+use Rattle.std.proofs.Common.{◌≡◌, ℕ, ◌+◌, ◌-◌, ◌*◌, ◌<◌, ◌≤◌, List, [], ◌∷◌, ◌++◌, drop, length, refl, sym, ap, ◌∙◌, subst, arith, length-drop}
 use Rattle.anim_names.specs.declared.entry.Entry.{Entry}
 use Rattle.anim_names.specs.declared.lane.Lane.{Lane}
 use Rattle.anim_names.specs.declared.lane.Lane.TheVariants.{Main, Compositor}
-use Rattle.anim_names.specs.Lanes.{letters_of}
 use Rattle.anim_names.specs.Lists.{BeginsWith}
 use Rattle.commit_lock.specs.Journals.{entries_of}
 use Rattle.commit_lock.specs.Seats.{SeatState}
@@ -16,14 +14,13 @@ use Rattle.tree_commit.specs.Scripts.{StepOfMain, EditStep, CommitStep, DrainSte
 use Rattle.tree_commit.specs.Runs.{MainLane, main_step}
 use Rattle.word_machine.specs.Courses.{Course, board_of, course_after, course_of, made_with, main_of}
 use Rattle.word_machine.specs.Moments.{model_count}
-use Rattle.word_machine.specs.Turns.{MayMakeMain, board_after_main, counts_with, main_turned}
-use Rattle.word_machine.proofs.MainTurns.{board-turned_main, counts-turned, main-turned, may_make_main, room_after_main}
+use Rattle.word_machine.specs.Turns.{MayMakeMain, counts_with, main_turned}
+use Rattle.word_machine.proofs.MainTurns.{board-turned_main, counts-turned, main-turned, may_make_main}
 use Rattle.word_machine.proofs.Right.{course-append, course_is_right, next_main}
 use Rattle.word_machine.proofs.UnderWay.{bounded, counted-next, first-allowed, main-left_next}
-use Rattle.lane_threads.specs.Keeping.{IsKeptBehindLock, ScriptBoard, course_at}
-use Rattle.lane_threads.specs.Knowing.{IsMainAhead, IsMainAt, IsNextOfMain, IsSeatOf, KnowsMain, with_letters}
-use Rattle.lane_threads.proofs.Halves.{HasSameMain, compositor-kept, course-one, main-kept}
-use Rattle.lane_threads.proofs.Letters.{filled-up, journal-goes_on, letters-none, letters-one, letters-other, letters-own, word-one_more}
+use Rattle.lane_threads.specs.Knowing.{IsMainAhead, IsMainAt, IsNextOfMain, KnowsMain, with_letters}
+use Rattle.lane_threads.proofs.Halves.{HasSameMain, main-kept}
+use Rattle.lane_threads.proofs.Letters.{journal-goes_on, letters-none, letters-one}
 
 -- ---- a side that is that of a run
 

@@ -1,5 +1,5 @@
 -- A section of the lock in which main makes its next step: what is kept behind the lock after it, and what main knows.
-use Rattle.std.proofs.Common.{◌≡◌, ℕ, ◌+◌, ◌-◌, ◌*◌, ◌<◌, ◌≤◌, List, [], ◌∷◌, ◌++◌, drop, length, refl, sym, ap, ◌∙◌, subst, arith}
+use Rattle.std.proofs.Common.{◌≡◌, ℕ, ◌+◌, ◌<◌, List, [], ◌∷◌, ◌++◌, drop, length, refl, sym, ap, ◌∙◌, subst, arith}
 use Rattle.anim_names.specs.declared.entry.Entry.{Entry}
 use Rattle.anim_names.specs.declared.lane.Lane.{Lane}
 use Rattle.anim_names.specs.declared.lane.Lane.TheVariants.{Main, Compositor}
@@ -9,15 +9,14 @@ use Rattle.commit_lock.specs.Seats.{SeatState, seat_after}
 use Rattle.frame_script.specs.Printing.{script_text}
 use Rattle.frame_exchange.specs.Journals.{Exchange, drain_entry, filled, publish_entry, word_so_far}
 use Rattle.frame_exchange.specs.Sides.{MainState}
-use Rattle.tree_commit.specs.Scripts.{StepOfMain, EditStep, CommitStep, DrainStep, ScriptLists}
+use Rattle.tree_commit.specs.Scripts.{StepOfMain, EditStep, CommitStep, DrainStep}
 use Rattle.tree_commit.specs.Runs.{CompositorLane}
-use Rattle.word_machine.specs.Courses.{Course, board_of, course_after, course_of, made_with, main_of}
-use Rattle.word_machine.specs.Moments.{model_count}
+use Rattle.word_machine.specs.Courses.{Course, board_of, course_after, course_of, made_with}
 use Rattle.word_machine.specs.Turns.{MayMakeMain, board_after_main, counts_with, main_turned}
 use Rattle.word_machine.proofs.MainTurns.{board-turned_main, room_after_main}
 use Rattle.word_machine.proofs.Right.{course_is_right}
 use Rattle.lane_threads.specs.Keeping.{IsKeptBehindLock, ScriptBoard, course_at}
-use Rattle.lane_threads.specs.Knowing.{IsMainAhead, IsMainAt, IsNextOfMain, IsSeatOf, KnowsMain, with_letters}
+use Rattle.lane_threads.specs.Knowing.{IsMainAhead, IsMainAt, IsNextOfMain, KnowsMain, with_letters}
 use Rattle.lane_threads.proofs.Halves.{compositor-kept, course-one}
 use Rattle.lane_threads.proofs.Letters.{filled-up, letters-one, letters-other, letters-own, word-one_more}
 use Rattle.lane_threads.proofs.MainLane.{main-level, main-may, main-moved, main-next, main-within}
@@ -61,7 +60,6 @@ made-after course step left is = ap (made_with course.main_made) is
 module _ (shared : ScriptBoard) (kept : IsKeptBehindLock shared) (silent : ℕ) (main : MainState) (counts : List ℕ)
     (h : IsMainAhead shared.script (word_so_far shared.board.entries) silent main counts)
     (step : StepOfMain) (next : IsNextOfMain shared.script main.steps step) where
-
   -- how many steps main has made
   steps-are : main.steps ≡ (course_at shared).main_made + silent
   steps-are = ap (λ (m : MainState). m.steps) h.at.of_main ∙ h.made

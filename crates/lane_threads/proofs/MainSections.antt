@@ -1,22 +1,20 @@
 -- From what main knows to a section and back: what it may do there, and what it knows after it.
-use Rattle.std.proofs.Common.{◌≡◌, ℕ, ◌+◌, ◌<◌, ◌≤◌, true, List, [], ◌∷◌, ◌++◌, Some, refl, sym, ap, ◌∙◌, subst, arith}
+use Rattle.std.proofs.Common.{◌≡◌, ℕ, ◌<◌, List, refl, sym, ap, ◌∙◌, subst, arith}
 use Rattle.std.proofs.lemmas.Bool.{ltb-true}
-use Rattle.anim_names.specs.declared.entry.Entry.{Entry}
 use Rattle.anim_names.specs.declared.lane.Lane.TheVariants.{Main, Compositor}
 use Rattle.anim_names.specs.declared.limit.TheConstants.{MOST_COMMITS}
 use Rattle.anim_names.specs.Lists.{BeginsWith}
 use Rattle.commit_lock.specs.Journals.{entries_of}
 use Rattle.commit_lock.specs.Seats.{SeatState, seat_after}
 use Rattle.event_queue.specs.Queues.{unheard}
-use Rattle.frame_exchange.specs.Journals.{Exchange, word_so_far}
-use Rattle.frame_exchange.specs.Sides.{MainState, commit_of, main_after_build, main_after_drain, main_after_hearing, main_after_publish}
-use Rattle.frame_script.specs.Printing.{script_text}
-use Rattle.tree_commit.specs.Scripts.{StepOfMain, EditStep, CommitStep, DrainStep, IsWellFormed, ScriptLists}
+use Rattle.frame_exchange.specs.Journals.{word_so_far}
+use Rattle.frame_exchange.specs.Sides.{MainState, main_after_drain, main_after_hearing, main_after_publish}
+use Rattle.tree_commit.specs.Scripts.{StepOfMain, CommitStep, DrainStep, IsWellFormed, ScriptLists}
 use Rattle.tree_commit.specs.Trees.{Committed}
 use Rattle.word_machine.specs.Courses.{board_of, course_of}
-use Rattle.word_machine.specs.Turns.{MayMakeMain, board_after_main, counts_with, main_turned}
+use Rattle.word_machine.specs.Turns.{MayMakeMain, board_after_main, counts_with}
 use Rattle.lane_threads.specs.Keeping.{IsKeptBehindLock, ScriptBoard}
-use Rattle.lane_threads.specs.Knowing.{IsNextOfMain, IsSeatOf, KnowsMain, with_letters}
+use Rattle.lane_threads.specs.Knowing.{IsNextOfMain, KnowsMain, with_letters}
 use Rattle.lane_threads.specs.Sections.{HasBuilt, HasDrained, MayDrain, MayPublish, board_published}
 use Rattle.lane_threads.proofs.MainLane.{main-found, main-may}
 use Rattle.lane_threads.proofs.MainSection.{knows-main_after}

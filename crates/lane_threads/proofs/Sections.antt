@@ -1,12 +1,12 @@
 -- What the calls on the board ask inside a section, and that the board is kept as it has to be after it.
-use Rattle.std.proofs.Common.{◌≡◌, ℕ, ◌+◌, ◌-◌, ◌<◌, ◌≤◌, ◌^◌, List, [], ◌∷◌, ◌++◌, drop, length, map, Option, Some, refl, sym, ap, ◌∙◌, subst, arith}
+use Rattle.std.proofs.Common.{◌≡◌, ℕ, ◌+◌, ◌-◌, ◌<◌, ◌≤◌, ◌^◌, List, [], ◌∷◌, ◌++◌, drop, length, Option, Some, refl, sym, ap, ◌∙◌, subst, arith}
 use Rattle.std.proofs.lemmas.List.{length-drop, length-map}
 use Rattle.anim_names.specs.declared.entry.Entry.{Entry}
 use Rattle.anim_names.specs.declared.event.AnimEvent.{AnimEvent}
 use Rattle.anim_names.specs.declared.lane.Lane.TheVariants.{Main, Compositor}
-use Rattle.event_queue.specs.Queues.{Queue, unheard, with_all_heard}
+use Rattle.event_queue.specs.Queues.{Queue, with_all_heard}
 use Rattle.frame_exchange.specs.Journals.{Exchange, drain_entry, last_upto, mailbox_after_pull, publish_entry, published, pull_entry, send_entry}
-use Rattle.frame_exchange.specs.Sides.{CompositorState, MainState, commit_of, news_of, slot_of}
+use Rattle.frame_exchange.specs.Sides.{CompositorState, MainState, news_of, slot_of}
 use Rattle.tree_commit.specs.declared.runs.compositor_step.CompositorStep.{CompositorStep}
 use Rattle.tree_commit.specs.declared.runs.compositor_step.CompositorStep.TheVariants.{Pull, Activate, Tick}
 use Rattle.tree_commit.specs.Marks.{event_of}

@@ -1,5 +1,5 @@
 -- What is kept behind the lock: a board, and the script whose steps its entries are of.
-use Rattle.std.specs.Prelude.{◌≡◌, ℕ, ◌+◌, ◌*◌, ◌≤◌, List, length}
+use Rattle.std.specs.Prelude.{◌≡◌, ◌+◌, ◌*◌, ◌≤◌, length}
 use Rattle.anim_names.specs.declared.lane.Lane.TheVariants.{Main, Compositor}
 use Rattle.anim_names.specs.Lanes.{letters_of}
 use Rattle.frame_exchange.specs.Journals.{Exchange, word_so_far}

@@ -1,5 +1,5 @@
 -- The sections of the lock: what each asks of the lane that makes it, and what it leaves.
-use Rattle.std.specs.Prelude.{◌≡◌, ℕ, ◌+◌, ◌-◌, true, false, Bool, List, [], ◌∷◌, ◌++◌, Option, Some, None, is_some, IsSomeAnd}
+use Rattle.std.specs.Prelude.{◌≡◌, ℕ, ◌+◌, ◌-◌, true, Bool, List, [], ◌∷◌, ◌++◌, Option, None, is_some, IsSomeAnd}
 use Rattle.anim_names.specs.declared.lane.Lane.TheVariants.{Main, Compositor}
 use Rattle.commit_lock.specs.Seats.{SeatState}
 use Rattle.frame_exchange.specs.Journals.{Exchange, publish_entry, word_so_far}
@@ -7,7 +7,7 @@ use Rattle.frame_exchange.specs.Sides.{CompositorState, MainState, commit_of, co
 use Rattle.tree_commit.specs.declared.runs.compositor_step.CompositorStep.{CompositorStep}
 use Rattle.tree_commit.specs.declared.runs.compositor_step.CompositorStep.TheVariants.{Pull, Activate, Tick}
 use Rattle.tree_commit.specs.Frames.{DrawnFrame}
-use Rattle.tree_commit.specs.Scripts.{StepOfMain, CommitStep, DrainStep, ScriptLists}
+use Rattle.tree_commit.specs.Scripts.{CommitStep, DrainStep, ScriptLists}
 use Rattle.tree_commit.specs.Trees.{Committed}
 use Rattle.word_machine.specs.Turns.{MayPlace, compositor_with_reply, counts_with, frames_with}
 use Rattle.lane_threads.specs.Keeping.{ScriptBoard}

@@ -31,12 +31,7 @@ use word_machine::close;
 ///
 /// The two lanes meet behind one lock round the board. It may wait for that lock. Where a lane finds no memory it ends, and
 /// the other lane goes on to its own end.
-pub fn run_lanes<
-    M: MainSteps,
-    C: CompositorSteps + Send,
-    G: Gate + Sync,
-    R: Threads + Wait + Sync,
->(
+pub fn run_lanes<M: MainSteps, C: CompositorSteps + Send, G: Gate + Sync, R: Threads + Wait + Sync>(
     rt: &R,
     alloc: Global,
     script: &Script,
@@ -57,8 +52,20 @@ pub fn run_lanes<
         rt,
         alloc,
         script,
-        (Desk { lock: &lock, seat: main_seat }, main),
-        (Desk { lock: &lock, seat: compositor_seat }, compositor),
+        (
+            Desk {
+                lock: &lock,
+                seat: main_seat,
+            },
+            main,
+        ),
+        (
+            Desk {
+                lock: &lock,
+                seat: compositor_seat,
+            },
+            compositor,
+        ),
         gate,
     );
     let (main_seat, mut main, counts) = main_end;

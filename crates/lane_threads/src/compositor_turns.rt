@@ -177,7 +177,10 @@ fn make_tick<'s, C: CompositorSteps, R: Wait>(
     ensures steps { OnOk result.1 ((C.state compositor.new).steps ≡ (C.state compositor.old).steps + 1) }
 {
     match draw(script, &seat, time, compositor, frames) {
-        Ok(()) => (send_news(rt, lock, seat, script, compositor, frames), Ok(())),
+        Ok(()) => (
+            send_news(rt, lock, seat, script, compositor, frames),
+            Ok(()),
+        ),
         Err(full) => (seat, Err(full)),
     }
 }

@@ -83,7 +83,12 @@ impl<'s> LaneBoard<'s> {
     }
 
     // Main publishes the commit that it has built, in a run of this script.
-    pub(crate) fn publish<M: MainSteps>(&mut self, script: &Script, main: &mut M, commit: Arc<Commit>)
+    pub(crate) fn publish<M: MainSteps>(
+        &mut self,
+        script: &Script,
+        main: &mut M,
+        commit: Arc<Commit>,
+    )
         requires same { script_text self.old.script ≡ script_text script.now }
         requires may { MayPublish (record { script = script.now; board = self.old.board }) (M.state main.old) commit.value }
         ensures made { M.state main.new ≡ main_after_publish (M.state main.old) }

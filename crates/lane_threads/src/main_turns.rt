@@ -126,7 +126,10 @@ fn make_commit<'s, M: MainSteps, R: Wait>(
 {
     let _well = script.main();
     match main.build() {
-        Ok(commit) => (publish(rt, lock, seat, script, main, commit, counts), Ok(())),
+        Ok(commit) => (
+            publish(rt, lock, seat, script, main, commit, counts),
+            Ok(()),
+        ),
         Err(full) => (seat, Err(full)),
     }
 }

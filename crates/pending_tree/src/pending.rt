@@ -6,7 +6,8 @@ use tree_commit::Commit;
 
 /// The commit that was pulled and waits for its activation, where there is one.
 ///
-/// The compositor has one pending tree. A contract sees the commit, or none.
+/// The compositor has one pending tree, on its own thread. It neither pulls nor activates: it does not know what may be
+/// put into it, nor when its commit is taken. A contract sees the commit, or none.
 pub struct PendingTree {
     commit: Option<Arc<Commit>>,
 }

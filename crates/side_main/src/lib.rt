@@ -8,3 +8,6 @@ mod hearing;
 mod side;
 
 pub use side::MainSide;
+
+#[cfg(test)]
+mod tests;

@@ -9,7 +9,6 @@ use frame_exchange::{Board, MainSteps};
 use main_tree::MainTree;
 use std::alloc::{AllocError, Global};
 use std::marker::Model;
-use std::snapshot::Snapshot;
 use std::sync::Arc;
 use tree_commit::{Commit, Edit, EditFault};
 
@@ -21,7 +20,7 @@ pub struct MainSide<'d, F: VerdictFunction> {
     tree: MainTree,
     delegate: &'d Delegate<F>,
     batch: Vec<AnimEvent>,
-    built: Option<Snapshot<Commit>>,
+    is_built: bool,
     heard: u32,
     steps: u32,
     room: u32,
@@ -33,7 +32,7 @@ impl<'d, F: VerdictFunction> Drop for MainSide<'d, F> {
             tree: _tree,
             delegate: _,
             batch: _batch,
-            built: _built,
+            is_built: _,
             heard: _,
             steps: _,
             room: _,
@@ -42,8 +41,9 @@ impl<'d, F: VerdictFunction> Drop for MainSide<'d, F> {
 }
 
 impl<'d, F: VerdictFunction> Model for MainSide<'d, F> {
-    ghost use Rattle.std.specs.Prelude.{◌+◌, ◌<◌, ◌≤◌, ◌^◌, length, option_map, vec_capacity};
+    ghost use Rattle.std.specs.Prelude.{◌≡◌, ◌+◌, ◌<◌, ◌≤◌, ◌^◌, true, [], length, vec_capacity};
     ghost use Rattle.frame_exchange.specs.Sides.{MainState};
+    ghost use Rattle.side_main.specs.Building.{built_of};
 
     ghost Value = { MainState };
 
@@ -51,7 +51,7 @@ impl<'d, F: VerdictFunction> Model for MainSide<'d, F> {
       tree = m.tree.tree;
       book = m.tree.book;
       heard = m.heard;
-      built = option_map (λ commit. commit.value) m.built;
+      built = built_of m.is_built m.tree;
       batch = m.batch.items;
       steps = m.steps;
       room = m.room;
@@ -59,7 +59,8 @@ impl<'d, F: VerdictFunction> Model for MainSide<'d, F> {
 
     ghost invariant = { λ m.
         (m.room ≤ vec_capacity m.batch)
-        × (m.heard + length m.batch.items < 2 ^ 32) };
+        × (m.heard + length m.batch.items < 2 ^ 32)
+        × (m.is_built ≡ true → m.batch.items ≡ []) };
 }
 
 impl<'d, F: VerdictFunction> MainSide<'d, F> {
@@ -77,7 +78,7 @@ impl<'d, F: VerdictFunction> MainSide<'d, F> {
             tree,
             delegate,
             batch,
-            built: None,
+            is_built: false,
             heard: 0,
             steps: 0,
             room: events,
@@ -103,14 +104,14 @@ impl<'d, F: VerdictFunction> MainSteps for MainSide<'d, F> {
 
     fn build(&mut self) -> Result<Arc<Commit>, AllocError> {
         let commit = self.tree.commit()?;
-        self.built = Some(Snapshot::of(&commit));
+        self.is_built = true;
         Ok(commit)
     }
 
     fn publish(&mut self, board: &mut Board, commit: Arc<Commit>) {
         self.steps = next(self.steps);
         board.publish(self.steps, commit);
-        self.built = None;
+        self.is_built = false;
     }
 
     fn drain(&mut self, board: &mut Board) -> usize {

@@ -74,7 +74,11 @@ fn make_steps<M: MainSteps, C: CompositorSteps>(
 }
 
 /// The closing drain: main hears what no drain has given, and how many events it has heard goes behind the counts.
-pub fn close<M: MainSteps>(main: &mut M, board: &Board, counts: &mut Vec<u32>) -> Result<(), AllocError>
+pub fn close<M: MainSteps>(
+    main: &mut M,
+    board: &Board,
+    counts: &mut Vec<u32>,
+) -> Result<(), AllocError>
     requires complete { IsMainComplete (M.state main.old) }
     requires batch_room { length (unheard board.now.queue) ≤ (M.state main.old).room }
     requires few { (M.state main.old).heard + length (unheard board.now.queue) < 2 ^ 32 }

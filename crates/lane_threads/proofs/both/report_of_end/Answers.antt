@@ -2,7 +2,7 @@ use Rattle.std.proofs.Common.{length, sym, ap, ◌∙◌}
 use Rattle.std.proofs.lemmas.List.{length-map}
 use Rattle.tree_commit.specs.Views.{step_of}
 use Rattle.word_machine.proofs.Moments.{may_close}
-use Rattle.lane_threads.proofs.Ends.{ReportsWord, reports-word}
+use Rattle.lane_threads.proofs.Ends.{reports-word}
 use Rattle.lane_threads.proofs.both.report_of_end.Goals as goal
 
 pub close-requires-clause-batch_room : goal.close-requires-clause-batch_room
