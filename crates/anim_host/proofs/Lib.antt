@@ -4,3 +4,4 @@ pub mod LoopLemmas
 pub mod PushLemmas
 pub mod StartLemmas
 pub mod ShownLemmas
+pub mod RowLemmas

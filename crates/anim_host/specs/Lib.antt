@@ -1,2 +1,3 @@
 pub mod Hosting
 pub mod MarkLists
+pub mod Rows

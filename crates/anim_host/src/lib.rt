@@ -11,6 +11,8 @@ pub mod laws;
 mod mark_list;
 mod marks;
 mod models;
+mod row;
+mod rows;
 mod steps;
 
 pub use host::AnimHost;
