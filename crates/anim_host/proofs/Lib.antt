@@ -5,3 +5,4 @@ pub mod PushLemmas
 pub mod StartLemmas
 pub mod ShownLemmas
 pub mod RowLemmas
+pub mod StateLemmas

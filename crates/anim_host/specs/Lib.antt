@@ -1,3 +1,4 @@
 pub mod Hosting
 pub mod MarkLists
 pub mod Rows
+pub mod States

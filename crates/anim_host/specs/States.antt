@@ -1,0 +1,86 @@
+-- How far each model has come, by the marks; and the rows that there are, by the commits and the marks.
+use Rattle.std.specs.Prelude.{◌≡◌, ℕ, ◌==◌, Bool, true, false, ◌||◌, if◌then◌else◌, List, [], Option, Some, None}
+use Rattle.std.specs.List.{list_any}
+use Rattle.keyframe_model.specs.Models.{Spec}
+use Rattle.tree_commit.specs.declared.runs.mark.Mark.{Mark}
+use Rattle.tree_commit.specs.declared.runs.mark.Mark.TheVariants.{Started, Finished, Aborted}
+use Rattle.tree_commit.specs.declared.runs.shown.Shown.{Shown}
+use Rattle.tree_commit.specs.Trees.{Committed, TreeLists}
+use Rattle.tree_commit.specs.Marks.{is_aborted, is_ended, is_started, start_of}
+use Rattle.anim_host.specs.declared.row.ModelRow.{ModelRow}
+use Rattle.anim_host.specs.declared.row.RunState.{RunState}
+use Rattle.anim_host.specs.declared.row.RunState.TheVariants as state
+
+-- ---- how far a model has come
+
+-- by its recorded start, and by whether it ended
+abbrev pub run_of : Bool → Option Shown → RunState
+run_of ended None = state.Waiting
+run_of true (Some shown) = state.Finished shown.start shown.order
+run_of false (Some shown) = state.Running shown.start shown.order
+
+-- by whether it was aborted and ended, and by its recorded start
+abbrev pub state_from : Bool → Bool → Option Shown → RunState
+state_from true ended start = state.Aborted
+state_from false ended start = run_of ended start
+
+-- what the marks say
+unfoldable pub state_of : List Mark → ℕ → RunState
+state_of marks id = state_from (is_aborted marks id) (is_ended marks id) (start_of marks id)
+
+-- Nothing finished that had not started.
+abbrev pub FinishesStarted : List Mark → Type 0
+FinishesStarted marks =
+    (id : ℕ) → is_ended marks id ≡ true → is_aborted marks id ≡ false → is_started marks id ≡ true
+
+-- ---- what one more mark changes
+
+-- the state of a model with one more mark about it, which has this index
+abbrev pub advanced : RunState → Mark → ℕ → RunState
+advanced state.Waiting (Started model group element property at start) order = state.Running start order
+advanced (state.Running begun place) (Finished model at) order = state.Finished begun place
+advanced before (Started model group element property at start) order = before
+advanced before (Finished model at) order = before
+advanced before (Aborted model commit) order = state.Aborted
+
+-- ---- what a state says
+
+abbrev pub runs : RunState → Bool
+runs state.Waiting = false
+runs (state.Running start order) = true
+runs (state.Finished start order) = false
+runs state.Aborted = false
+
+abbrev pub has_ended : RunState → Bool
+has_ended state.Waiting = false
+has_ended (state.Running start order) = false
+has_ended (state.Finished start order) = true
+has_ended state.Aborted = true
+
+-- what is shown of a model in this state
+abbrev pub shown_at : RunState → Option Shown
+shown_at state.Waiting = None
+shown_at (state.Running start order) = Some (record { start = start; order = order })
+shown_at (state.Finished start order) = Some (record { start = start; order = order })
+shown_at state.Aborted = None
+
+-- ---- rows
+
+-- one of the models has this id
+abbrev pub is_among : List Spec → ℕ → Bool
+is_among models id = list_any (λ model. id == model.id) models
+
+-- the row of a model, by whether it is in either commit
+abbrev pub row_if : Bool → Bool → List Mark → ℕ → Option ModelRow
+row_if false false marks id = None
+row_if true pending marks id = Some (record { model = id; state = state_of marks id; in_active = true; in_pending = pending })
+row_if false true marks id = Some (record { model = id; state = state_of marks id; in_active = false; in_pending = true })
+
+-- the row of a model, where these models are in the active commit and those in the pending one
+unfoldable pub row_for : List Spec → List Spec → List Mark → ℕ → Option ModelRow
+row_for active pending marks id = row_if (is_among active id) (is_among pending id) marks id
+
+-- the models of the pending commit
+abbrev pub models_of : Option Committed → List Spec
+models_of None = []
+models_of (Some commit) = commit.tree.models
