@@ -6,3 +6,5 @@ pub mod StartLemmas
 pub mod ShownLemmas
 pub mod RowLemmas
 pub mod StateLemmas
+pub mod AmongLemmas
+pub mod StandLemmas

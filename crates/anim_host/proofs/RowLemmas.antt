@@ -1,6 +1,6 @@
 -- Rows of models under their ids: what one change does.
 use Rattle.std.proofs.Common.{◌≡◌, ◌≢◌, ℕ, zero, suc, [], ◌∷◌, slice_set, ◌+◌, ◌<◌, ◌≤◌, Bool, true, false, cond, List, length, Option, Some, None, refl, sym, ap, ◌∙◌, nat_eq, arith, inl, inr}
-use Rattle.std.specs.Prelude.{option_map, option_and_then, is_some, count_by, OnSome, Result, Ok, Err, IsOk, OnOk}
+use Rattle.std.specs.Prelude.{option_map, option_and_then, is_some, count_by, OnSome, IfSome, Result, Ok, Err, IsOk, OnOk}
 use Rattle.std.proofs.Common.{rules}
 use Rattle.std.specs.Map.{lookup}
 use Rattle.std.proofs.lemmas.Bool.{eq-eqb}
@@ -174,3 +174,8 @@ count-set slots key row id had =
     let was = one (slot_at slots key) id had in
     let sums = sum_by-set (λ (o : Option ModelRow). cond (is_some o) 1 0) slots key (Some row) None lt in
     omega (arith, sums, was)
+
+-- a row stands under its own model's id
+pub own-id : (o : Option ModelRow) (id : ℕ) → option_map (λ (r : ModelRow). r.model) o ≡ Some id → IfSome o (λ row. row.model ≡ id)
+own-id None id had = tt
+own-id (Some row) id had = cc

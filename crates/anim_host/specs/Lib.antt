@@ -2,3 +2,4 @@ pub mod Hosting
 pub mod MarkLists
 pub mod Rows
 pub mod States
+pub mod Standing

@@ -1,5 +1,5 @@
 -- How far each model has come, by the marks; and the rows that there are, by the commits and the marks.
-use Rattle.std.specs.Prelude.{◌≡◌, ℕ, ◌==◌, Bool, true, false, ◌||◌, if◌then◌else◌, List, [], Option, Some, None}
+use Rattle.std.specs.Prelude.{◌≡◌, ℕ, ◌==◌, Bool, true, false, ◌||◌, if◌then◌else◌, ℤ, List, [], Option, Some, None}
 use Rattle.std.specs.List.{list_any}
 use Rattle.keyframe_model.specs.Models.{Spec}
 use Rattle.tree_commit.specs.declared.runs.mark.Mark.{Mark}
@@ -35,12 +35,24 @@ FinishesStarted marks =
 
 -- ---- what one more mark changes
 
+-- a waiting model runs
+abbrev pub started : RunState → ℤ → ℕ → RunState
+started state.Waiting start order = state.Running start order
+started (state.Running begun place) start order = state.Running begun place
+started (state.Finished begun place) start order = state.Finished begun place
+started state.Aborted start order = state.Aborted
+
+-- a running model is finished
+abbrev pub finished : RunState → RunState
+finished state.Waiting = state.Waiting
+finished (state.Running start order) = state.Finished start order
+finished (state.Finished start order) = state.Finished start order
+finished state.Aborted = state.Aborted
+
 -- the state of a model with one more mark about it, which has this index
 abbrev pub advanced : RunState → Mark → ℕ → RunState
-advanced state.Waiting (Started model group element property at start) order = state.Running start order
-advanced (state.Running begun place) (Finished model at) order = state.Finished begun place
-advanced before (Started model group element property at start) order = before
-advanced before (Finished model at) order = before
+advanced before (Started model group element property at start) order = started before start order
+advanced before (Finished model at) order = finished before
 advanced before (Aborted model commit) order = state.Aborted
 
 -- ---- what a state says

@@ -13,6 +13,7 @@ mod marks;
 mod models;
 mod row;
 mod rows;
+mod standing;
 mod steps;
 
 pub use host::AnimHost;

@@ -80,6 +80,14 @@ impl MarkList {
         self.marks.len()
     }
 
+    /// The index of the next mark.
+    pub(crate) fn next_order(&self) -> u32
+        requires { length self.now.marks < self.now.room }
+        ensures { result ≡ length self.now.marks }
+    {
+        self.marks.len() as u32
+    }
+
     /// The first so many marks.
     #[tactic(auto, using(crate::proofs::MarkListLemmas::within_take))]
     pub(crate) fn first(&self, count: usize) -> &[Mark]

@@ -106,7 +106,8 @@ fn aborts(mark: &Mark, id: ModelId) -> bool
     }
 }
 
-fn model_of(mark: &Mark) -> ModelId
+/// The model that the mark is about.
+pub(crate) fn model_of(mark: &Mark) -> ModelId
     ensures { result ≡ model_of mark.now }
 {
     match *mark {

@@ -1,4 +1,8 @@
+ghost use Rattle.std.specs.Prelude.{◌≡◌};
+ghost use Rattle.anim_host.specs.States.{advanced, finished, has_ended, runs, shown_at, started};
+
 use anim_names::ModelId;
+use tree_commit::{Mark, Shown};
 
 /// How far a keyframe model has come. A recorded start is in microseconds of the model's timeline, and the order is the
 /// index of the start among the marks.
@@ -17,4 +21,73 @@ pub(crate) struct ModelRow {
     pub(crate) state: RunState,
     pub(crate) in_active: bool,
     pub(crate) in_pending: bool,
+}
+
+impl RunState {
+    /// Whether the model started and did not end.
+    pub(crate) fn runs(&self) -> bool
+        ensures { result ≡ runs self.now }
+    {
+        match self {
+            RunState::Waiting => false,
+            RunState::Running { .. } => true,
+            RunState::Finished { .. } => false,
+            RunState::Aborted => false,
+        }
+    }
+
+    /// Whether the model finished or was aborted.
+    pub(crate) fn has_ended(&self) -> bool
+        ensures { result ≡ has_ended self.now }
+    {
+        match self {
+            RunState::Waiting => false,
+            RunState::Running { .. } => false,
+            RunState::Finished { .. } => true,
+            RunState::Aborted => true,
+        }
+    }
+
+    /// What is shown of the model: nothing before it started and once it was aborted.
+    pub(crate) fn shown(&self) -> Option<Shown>
+        ensures { result ≡ shown_at self.now }
+    {
+        match *self {
+            RunState::Waiting => None,
+            RunState::Running { start, order } => Some(Shown { start, order }),
+            RunState::Finished { start, order } => Some(Shown { start, order }),
+            RunState::Aborted => None,
+        }
+    }
+}
+
+/// The state of a model with one more mark about it, which has this index among the marks.
+pub(crate) fn advanced(state: RunState, mark: &Mark, order: u32) -> RunState
+    ensures { result ≡ advanced state mark.now order }
+{
+    match *mark {
+        Mark::Started { start, .. } => started(state, start, order),
+        Mark::Finished { .. } => finished(state),
+        Mark::Aborted { .. } => RunState::Aborted,
+    }
+}
+
+// A waiting model runs.
+fn started(state: RunState, start: i64, order: u32) -> RunState
+    ensures { result ≡ started state start order }
+{
+    match state {
+        RunState::Waiting => RunState::Running { start, order },
+        other => other,
+    }
+}
+
+// A running model is finished.
+fn finished(state: RunState) -> RunState
+    ensures { result ≡ finished state }
+{
+    match state {
+        RunState::Running { start, order } => RunState::Finished { start, order },
+        other => other,
+    }
 }

@@ -1,12 +1,15 @@
-ghost use Rattle.std.specs.Prelude.{◌≡◌, ◌≢◌, ℕ, ◌+◌, ◌≤◌, ◌<◌, Some, None, IfOk, OnOk, OnErr, nat_eq, is_some, true};
-ghost use Rattle.anim_host.specs.Rows.{row_at, row_count};
+ghost use Rattle.std.specs.Prelude.{◌≡◌, ◌≢◌, ℕ, ◌+◌, ◌≤◌, ◌<◌, Some, None, IfOk, OnOk, OnErr, nat_eq, is_some, true, IfSome, option_map, option_and_then};
+ghost use Rattle.anim_host.specs.Rows.{advanced_row, entered, joined, left, row_at, row_count};
+ghost use Rattle.tree_commit.specs.Marks.{model_of};
 
-use crate::row::{ModelRow, RunState};
+use crate::row::{ModelRow, RunState, advanced};
+use crate::marks::model_of;
 use anim_names::ModelId;
 use slab::Slab;
 use std::alloc::{AllocError, Global};
 use std::collections::HashMap;
 use std::marker::Model;
+use tree_commit::Mark;
 
 /// The rows of keyframe models, each under the id of its model.
 ///
@@ -66,7 +69,8 @@ impl RowTable {
 
     /// The row of a model, where there is one.
     pub(crate) fn row(&self, id: ModelId) -> Option<ModelRow>
-        ensures { result ≡ row_at self.now id }
+        ensures row { result ≡ row_at self.now id }
+        ensures own { IfSome result (λ row. row.model ≡ id) }
     {
         match self.places.get(&id) {
             None => None,
@@ -127,6 +131,70 @@ impl RowTable {
     {
         if let Some(key) = self.places.remove(&id) {
             let _ = self.rows.try_remove(key);
+        }
+    }
+
+    /// Puts what the mark says, which has this index among the marks, into the row of its model.
+    pub(crate) fn advance(&mut self, mark: &Mark, order: u32)
+        ensures here { row_at self.new (model_of mark.now)
+            ≡ option_map (advanced_row mark.now order) (row_at self.old (model_of mark.now)) }
+        ensures others { (id : ℕ) → id ≢ model_of mark.now → row_at self.new id ≡ row_at self.old id }
+    {
+        if let Some(row) = self.row(model_of(mark)) {
+            self.set(ModelRow {
+                state: advanced(row.state, mark, order),
+                ..row
+            });
+        }
+    }
+
+    /// A model is in the pending commit from now on. A model that had no row waits.
+    pub(crate) fn join_pending(&mut self, id: ModelId)
+        requires room { 0 < self.old.room }
+        ensures here { row_at self.new id ≡ Some (joined id (row_at self.old id)) }
+        ensures others { (other : ℕ) → other ≢ id → row_at self.new other ≡ row_at self.old other }
+        ensures room { self.old.room ≤ self.new.room + 1 }
+    {
+        match self.row(id) {
+            Some(row) => self.set(ModelRow {
+                in_pending: true,
+                ..row
+            }),
+            None => self.insert(ModelRow {
+                model: id,
+                state: RunState::Waiting,
+                in_active: false,
+                in_pending: true,
+            }),
+        }
+    }
+
+    /// A model is in the active commit no more. Where it is not in the pending one either, its row is freed.
+    pub(crate) fn leave_active(&mut self, id: ModelId)
+        ensures here { row_at self.new id ≡ option_and_then left (row_at self.old id) }
+        ensures others { (other : ℕ) → other ≢ id → row_at self.new other ≡ row_at self.old other }
+    {
+        match self.row(id) {
+            Some(row) if row.in_pending => self.set(ModelRow {
+                in_active: false,
+                ..row
+            }),
+            Some(_) => self.remove(id),
+            None => {}
+        }
+    }
+
+    /// A model of the pending commit is in the active one instead.
+    pub(crate) fn enter_active(&mut self, id: ModelId)
+        ensures here { row_at self.new id ≡ option_map entered (row_at self.old id) }
+        ensures others { (other : ℕ) → other ≢ id → row_at self.new other ≡ row_at self.old other }
+    {
+        if let Some(row) = self.row(id) {
+            self.set(ModelRow {
+                in_active: true,
+                in_pending: false,
+                ..row
+            });
         }
     }
 }

@@ -1,0 +1,23 @@
+-- What the tables of a host stand for: the active commit, the pending one or none, and the marks.
+use Rattle.std.specs.Prelude.{◌≡◌, ℕ, List, Option}
+use Rattle.tree_commit.specs.declared.runs.mark.Mark.{Mark}
+use Rattle.tree_commit.specs.Trees.{Committed}
+use Rattle.anim_host.specs.MarkLists.{Marked, with_marks}
+use Rattle.anim_host.specs.Rows.{Rows, row_at}
+use Rattle.anim_host.specs.States.{FinishesStarted, models_of, row_for}
+
+-- The tables stand for these commits and these marks. Each model of either commit has its row, which says in which of
+-- them it is and what the marks say of it; and there are no other rows.
+pub record StandsFor (rows : Rows) (active : Committed) (pending : Option Committed) (marks : List Mark) : Type 0 where
+  pub of_rows : (id : ℕ) → row_at rows id ≡ row_for active.tree.models (models_of pending) marks id
+  pub finishes : FinishesStarted marks
+
+-- the active commit, the pending one or none, and the list of marks
+pub record Stood : Type 0 where
+  pub active : Committed
+  pub pending : Option Committed
+  pub list : Marked
+
+-- with new marks behind the others
+abbrev pub with_new : Stood → List Mark → Stood
+with_new stood new = record stood { list = with_marks stood.list new }
