@@ -4,6 +4,7 @@ use Rattle.std.specs.Prelude.{slice_get, ◌==◌, option_map, option_and_then}
 use Rattle.std.specs.List.{IsDistinct}
 use Rattle.std.proofs.lemmas.Bool.{eq-eqb}
 use Rattle.std.proofs.lemmas.Bool.Decides.{eqb_tells}
+use Rattle.std.proofs.lemmas.Option.{none-some, same_Some}
 use Rattle.keyframe_model.specs.Models.{Spec}
 use Rattle.tree_commit.specs.declared.runs.mark.Mark.{Mark}
 use Rattle.tree_commit.specs.Marks.{model_of}
@@ -182,3 +183,45 @@ entered-next at new models marks i model differ found here others stand id =
     or-none : (b : Bool) → (b || false) ≡ b
     or-none true = refl
     or-none false = refl
+
+-- ---- what a row says
+
+read-state : (active pending : Bool) (marks : List Mark) (id : ℕ) (row : ModelRow)
+    → Some row ≡ row_if active pending marks id → row.state ≡ state_of marks id
+read-state false false marks id row is = absurd (none-some row (sym is))
+read-state false true marks id row is = ap (λ r. r.state) (same_Some _ _ is)
+read-state true pending marks id row is = ap (λ r. r.state) (same_Some _ _ is)
+
+read-active : (active pending : Bool) (marks : List Mark) (id : ℕ) (row : ModelRow)
+    → Some row ≡ row_if active pending marks id → row.in_active ≡ active
+read-active false false marks id row is = absurd (none-some row (sym is))
+read-active false true marks id row is = ap (λ r. r.in_active) (same_Some _ _ is)
+read-active true pending marks id row is = ap (λ r. r.in_active) (same_Some _ _ is)
+
+read-none : (active pending : Bool) (marks : List Mark) (id : ℕ) → None ≡ row_if active pending marks id → active ≡ false
+read-none false false marks id is = refl
+read-none false true marks id is = absurd (none-some _ is)
+read-none true pending marks id is = absurd (none-some _ is)
+
+-- a row says what the marks say
+pub row-state : (active pending : List Spec) (marks : List Mark) (id : ℕ) (row : ModelRow)
+    → Some row ≡ row_for active pending marks id → row.state ≡ state_of marks id
+unfolding row_for
+row-state active pending marks id row is = read-state (is_among active id) (is_among pending id) marks id row is
+
+-- and whether its model is in the active commit
+pub row-active : (active pending : List Spec) (marks : List Mark) (id : ℕ) (row : ModelRow)
+    → Some row ≡ row_for active pending marks id → row.in_active ≡ is_among active id
+unfolding row_for
+row-active active pending marks id row is = read-active (is_among active id) (is_among pending id) marks id row is
+
+-- a model with no row is not in the active commit
+pub row-none : (active pending : List Spec) (marks : List Mark) (id : ℕ)
+    → None ≡ row_for active pending marks id → is_among active id ≡ false
+unfolding row_for
+row-none active pending marks id is = read-none (is_among active id) (is_among pending id) marks id is
+
+-- no row where there is no model
+pub row-nowhere : (marks : List Mark) (id : ℕ) → row_for [] [] marks id ≡ None
+unfolding row_for
+row-nowhere marks id = refl
