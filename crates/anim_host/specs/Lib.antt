@@ -3,3 +3,4 @@ pub mod MarkLists
 pub mod Rows
 pub mod States
 pub mod Standing
+pub mod Shapes

@@ -13,6 +13,7 @@ mod marks;
 mod models;
 mod row;
 mod rows;
+mod shape;
 mod standing;
 mod steps;
 
