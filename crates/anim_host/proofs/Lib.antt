@@ -8,3 +8,4 @@ pub mod RowLemmas
 pub mod StateLemmas
 pub mod AmongLemmas
 pub mod StandLemmas
+pub mod ShapeLemmas
