@@ -1,10 +1,10 @@
 -- Models of a commit by their places: no two have one id.
-use Rattle.std.proofs.Common.{◌≡◌, ◌≢◌, ℕ, zero, suc, ◌+◌, Bool, true, false, ◌||◌, List, [], ◌∷◌, ◌++◌, length, map, take, drop, Option, Some, None, refl, sym, ap, ◌∙◌, nat_eq, add-one, inl, inr}
-use Rattle.std.specs.Prelude.{slice_get, ◌==◌}
+use Rattle.std.proofs.Common.{◌≡◌, ◌≢◌, ℕ, zero, suc, ◌+◌, Bool, true, false, ◌||◌, List, [], ◌∷◌, ◌++◌, length, map, take, drop, Option, Some, None, refl, sym, ap, ◌∙◌, nat_eq, add-one, subst, inl, inr}
+use Rattle.std.specs.Prelude.{slice_get, ◌==◌, All}
 use Rattle.std.specs.List.{IsDistinct, AllByRecursion, list_any}
 use Rattle.std.proofs.lemmas.Bool.{eq-eqb}
 use Rattle.std.proofs.lemmas.Bool.Decides.{eqb_tells}
-use Rattle.std.proofs.lemmas.Option.{none-some, same_Some}
+use Rattle.std.proofs.lemmas.Option.{none-some, same_Some, get_or_from_slice_get, slice_get_within}
 use Rattle.std.proofs.lemmas.Map.Keys.{IsDistinct-head, IsDistinct-tail}
 use Rattle.keyframe_model.specs.Models.{Spec}
 use Rattle.tree_commit.specs.Follows.{IsAmong}
@@ -78,3 +78,15 @@ apart-before [] i model differ found = absurd (none-some model found)
 apart-before (x ∷ models) zero model differ found = refl
 apart-before (x ∷ models) (suc i) model differ found =
     ap (λ b. b || is_among (take i models) model.id) (other-than x.id models i model (IsDistinct-head nat_eq x.id (map (λ m. m.id) models) differ) found) ∙ apart-before models i model (IsDistinct-tail nat_eq x.id (map (λ m. m.id) models) differ) found
+
+-- ---- by place
+
+pub found-there : (models : List Spec) (i : ℕ) (model : Spec) → slice_get models i ≡ Some model → is_among models model.id ≡ true
+found-there [] i model found = absurd (none-some model found)
+found-there (x ∷ models) zero model found =
+    ap (λ b. b || is_among models model.id) (eq-eqb model.id x.id (ap (λ (m : Spec). m.id) (sym (same_Some x model found))))
+found-there (x ∷ models) (suc i) model found = or-fact (model.id == x.id) (is_among models model.id) (found-there models i model found)
+
+-- what is so of each element is so of the one at a place
+pub all-at : {X : Type 0} (P : X → Type 0) (xs : List X) (i : ℕ) (x : X) → All P xs → slice_get xs i ≡ Some x → P x
+all-at P xs i x all found = subst P (get_or_from_slice_get xs i x x found) (all i x (slice_get_within xs i x found))

@@ -1,7 +1,9 @@
 -- The groups of a commit with the places of their models.
 use Rattle.std.proofs.Common.{◌≡◌, ◌≢◌, ℕ, ◌+◌, ◌<◌, ◌≤◌, Bool, true, false, cond, not, ◌||◌, List, [], ◌∷◌, ◌++◌, length, map, take, drop, filter, Option, Some, None, refl, sym, ap, ◌∙◌, nat_eq, arith, append_assoc, add-one, subst, zero, suc, inl, inr}
 use Rattle.std.specs.Prelude.{option_map, is_some, filter_map, slice_get, unwrap_or, Vec, if◌then◌else◌, ◌==◌, fold}
-use Rattle.std.specs.List.{list_any, cons_option, AllByRecursion}
+use Rattle.std.specs.Prelude.{◌&&◌}
+use Rattle.std.specs.List.{list_all, list_any, cons_option, AllByRecursion}
+use Rattle.anim_host.proofs.LoopLemmas.{all-filter}
 use Rattle.std.proofs.lemmas.Bool.Decides.{eqb_tells}
 use Rattle.std.proofs.lemmas.Option.{none-some, same_Some}
 use Rattle.std.proofs.lemmas.List.Folds.{list_any-append}
@@ -258,3 +260,30 @@ shape-within models group j place found =
     let all = below-from 0 [] models (λ g. tt) group in
     let lt : place < 0 + length models = below-at (0 + length models) (places_in (shape_of models) group) j place all found in
     omega arith
+
+-- ---- loops over the places of a group
+
+-- a test of those models at places that pass another
+pub all-places : (models : List Spec) (p q : Spec → Bool) (place : ℕ) (places : List ℕ) (model : Spec)
+    → slice_get models place ≡ Some model
+    → list_all q (filter p (at_places models (place ∷ places))) ≡ (cond (p model) (q model) true && list_all q (filter p (at_places models places)))
+all-places models p q place places model found =
+    ap (λ (o : Option Spec). list_all q (filter p (cons_option o (at_places models places)))) found
+    ∙ all-filter p q model (at_places models places) (p model) refl
+
+-- as many models as places
+pub length-places : (models : List Spec) (places : List ℕ) → ((j place : ℕ) → slice_get places j ≡ Some place → place < length models)
+    → length (at_places models places) ≡ length places
+length-places models [] within = refl
+length-places models (place ∷ places) within =
+    let rest = length-places models places (λ j p found. within (suc j) p found) in
+    one (slice_get models place) (here models place (within 0 place refl)) rest
+  where
+    here : (ms : List Spec) (p : ℕ) → p < length ms → is_some (slice_get ms p) ≡ true
+    here [] p lt = absurd (omega arith)
+    here (m ∷ ms) zero lt = refl
+    here (m ∷ ms) (suc p) lt = ?
+    one : (o : Option Spec) → is_some o ≡ true → length (at_places models places) ≡ length places
+        → length (cons_option o (at_places models places)) ≡ length (place ∷ places)
+    one None some rest = cc
+    one (Some model) some rest = omega arith

@@ -13,9 +13,11 @@ use Rattle.tree_commit.specs.Frames.{shown_by}
 use Rattle.tree_commit.specs.Marks.{aborts, ends, is_aborted, is_ended, is_running, is_started, model_of, start_from, start_of, starts}
 use Rattle.anim_host.specs.declared.row.RunState.{RunState}
 use Rattle.anim_host.specs.declared.row.RunState.TheVariants as state
-use Rattle.anim_host.specs.MarkLists.{start_in}
+use Rattle.std.specs.Prelude.{unsigned_abs, IfSome}
+use Rattle.anim_timeline.specs.declared.TheConstants.{LAST_TIME}
+use Rattle.anim_host.specs.MarkLists.{StartsAreWithin, start_in}
 use Rattle.anim_host.specs.States.{FinishesStarted, advanced, has_ended, run_of, runs, shown_at, state_from, state_of}
-use Rattle.anim_host.proofs.MarkLemmas.{start-found, start-later}
+use Rattle.anim_host.proofs.MarkLemmas.{start-found, start-later, start_within}
 
 -- ---- marks with one more
 
@@ -273,3 +275,29 @@ finishes-started marks (Aborted model commit) fits had = λ id ended alive.
     started-more marks (Aborted model commit) id
     ∙ or_none (is_started marks id)
     ∙ fits id (sym (ap (λ b. is_ended marks id || b) none.1 ∙ or_none (is_ended marks id)) ∙ e) none.0
+
+-- what is shown of a model is in range
+pub shown-within : (marks : List Mark) (id : ℕ) → StartsAreWithin marks → IfSome (shown_by marks id) (λ s. unsigned_abs s.start ≤ LAST_TIME)
+shown-within marks id within = either (is_aborted marks id) (start_of marks id) (start_within marks id within)
+  where
+    either : (b : Bool) (o : Option Shown) → IfSome o (λ s. unsigned_abs s.start ≤ LAST_TIME) → IfSome (if b then None else o) (λ s. unsigned_abs s.start ≤ LAST_TIME)
+    either true o in_range = tt
+    either false o in_range = in_range
+
+-- of a running model it is the start that was recorded
+pub running-shown : (marks : List Mark) (id : ℕ) → is_running marks id ≡ true → shown_by marks id ≡ start_of marks id
+running-shown marks id runs = alive (is_aborted marks id) (is_started marks id) (is_ended marks id) (abort-ends marks id) runs
+  where
+    alive : (a s e : Bool) → (a ≡ true → e ≡ true) → (s && not e) ≡ true → (if a then None else start_of marks id) ≡ start_of marks id
+    alive true true true ends runs = cc
+    alive true false true ends runs = cc
+    alive true s false ends runs = cc (ends refl)
+    alive false s e ends runs = refl
+
+-- a running model started
+pub running-started : (marks : List Mark) (id : ℕ) → is_running marks id ≡ true → is_started marks id ≡ true
+running-started marks id runs = left (is_started marks id) (not (is_ended marks id)) runs
+  where
+    left : (a b : Bool) → (a && b) ≡ true → a ≡ true
+    left true b is = refl
+    left false b is = cc

@@ -5,6 +5,7 @@
 //! marks, and works everything out from these. It knows neither curves nor frames.
 #![tactic(auto)]
 
+mod finish;
 mod groups;
 mod host;
 pub mod laws;

@@ -1,15 +1,16 @@
-ghost use Rattle.std.specs.Prelude.{◌≡◌, ◌≤◌, ◌<◌, ◌+◌, ℕ, [], ◌∷◌, length, List, map, nat_eq, true, false, None, Some, IfOk, OnOk, OnErr, option_map, if◌then◌else◌};
+ghost use Rattle.std.specs.Prelude.{◌≡◌, ◌≤◌, ◌<◌, ◌+◌, ℕ, [], ◌∷◌, length, List, map, nat_eq, unsigned_abs, IfSome, true, false, None, Some, IfOk, OnOk, OnErr, option_map, if◌then◌else◌};
 ghost use Rattle.std.specs.List.{IsDistinct};
+ghost use Rattle.anim_timeline.specs.declared.TheConstants.{LAST_TIME};
 ghost use Rattle.anim_host.specs.MarkLists.{Marked, StartIsWithin, StartsAreWithin, events_behind};
 ghost use Rattle.anim_host.specs.Rows.{row_at};
 ghost use Rattle.anim_host.specs.Standing.{Stood, with_new};
-ghost use Rattle.anim_host.specs.States.{is_among, row_for, state_of};
+ghost use Rattle.anim_host.specs.States.{FinishesStarted, has_ended, is_among, row_for, runs, shown_at, state_of};
 ghost use Rattle.anim_host.specs.declared.row.RunState.TheVariants.{Waiting};
 ghost use Rattle.keyframe_model.specs.Models.{Spec};
 ghost use Rattle.tree_commit.specs.declared.runs.mark.Mark as declared;
 ghost use Rattle.tree_commit.specs.Follows.{IsAmong};
 ghost use Rattle.tree_commit.specs.Frames.{shown_by};
-ghost use Rattle.tree_commit.specs.Marks.{aborts, ends, is_started, model_of};
+ghost use Rattle.tree_commit.specs.Marks.{aborts, ends, is_ended, is_running, is_started, model_of};
 ghost use Rattle.tree_commit.specs.Trees.{empty_commit, has_model};
 
 use crate::mark_list::MarkList;
@@ -92,7 +93,20 @@ impl Standing {
     /// How far a model of the active commit has come.
     pub(crate) fn state(&self, id: ModelId) -> RunState
         requires { has_model self.now.active.tree id ≡ true }
-        ensures { result ≡ state_of self.now.list.marks id }
+        ensures runs { runs result ≡ is_running self.now.list.marks id }
+        ensures ended { has_ended result ≡ is_ended self.now.list.marks id }
+        ensures shown { shown_at result ≡ shown_by self.now.list.marks id }
+        ensures within { IfSome (shown_at result) (λ s. unsigned_abs s.start ≤ LAST_TIME) }
+    {
+        let _ = self.marks.marks();
+        self.state_now(id)
+    }
+
+    // What the marks say of a model of the active commit.
+    fn state_now(&self, id: ModelId) -> RunState
+        requires { has_model self.now.active.tree id ≡ true }
+        ensures state { result ≡ state_of self.now.list.marks id }
+        ensures finishes { FinishesStarted self.now.list.marks }
     {
         match self.rows.row(id) {
             Some(row) => row.state,

@@ -1,19 +1,20 @@
-use Rattle.std.proofs.Common.{◌≡◌, arith, sym, ◌∙◌}
-use Rattle.std.specs.Prelude.{option_map}
-use Rattle.anim_host.specs.States.{is_among, models_of}
-use Rattle.anim_host.proofs.StandLemmas.{row-none, row-state}
+use Rattle.std.proofs.Common.{◌≡◌, ◌≤◌, Option, ap, sym, subst, ◌∙◌}
+use Rattle.std.specs.Prelude.{unsigned_abs, IfSome}
+use Rattle.anim_timeline.specs.declared.TheConstants.{LAST_TIME}
+use Rattle.tree_commit.specs.declared.runs.shown.Shown.{Shown}
+use Rattle.anim_host.specs.States.{has_ended, runs, shown_at}
+use Rattle.anim_host.proofs.StateLemmas.{shown-within, state-ended, state-runs, state-shown}
 use Rattle.anim_host.proofs.standing.Standing.state.Goals as goal
 
-pub returns-in-Some : goal.returns-in-Some
-returns-in-Some c =
-    rw (← c.self.view_is)
-    (row-state c.self.inside.active.value.tree.models (models_of (option_map (λ commit. commit.value) c.self.inside.pending)) c.self.inside.marks.marks c.args.id c.in-Some.row
-    (sym c.in-Some.is ∙ c.row.ensures.row ∙ c.self.invariant.of_rows c.args.id))
-
-pub returns-in-None : goal.returns-in-None
-returns-in-None c =
-    let gone =
-    row-none c.self.inside.active.value.tree.models (models_of (option_map (λ commit. commit.value) c.self.inside.pending)) c.self.inside.marks.marks c.args.id
-    (sym c.in-None.is ∙ c.row.ensures.row ∙ c.self.invariant.of_rows c.args.id) in
-    let there = rw (← c.self.view_is) at c.requires in
-    absurd cc
+pub returns : goal.returns
+returns c =
+    let is = c.state_now.ensures.state in
+    let marks = c.args.self.now.list.marks in
+    let id = c.args.id in
+    record {
+      runs = ap runs is ∙ state-runs marks id;
+      ended = ap has_ended is ∙ state-ended marks id c.state_now.ensures.finishes;
+      shown = ap shown_at is ∙ state-shown marks id;
+      within = subst (λ (o : Option Shown). IfSome o (λ s. unsigned_abs s.start ≤ LAST_TIME)) (sym (ap shown_at is ∙ state-shown marks id))
+          (shown-within marks id (rw (← c.self.view_is) c.marks.ensures.within));
+    }
