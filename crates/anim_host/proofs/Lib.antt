@@ -9,3 +9,4 @@ pub mod StateLemmas
 pub mod AmongLemmas
 pub mod StandLemmas
 pub mod ShapeLemmas
+pub mod GrowLemmas

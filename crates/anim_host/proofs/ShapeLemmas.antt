@@ -9,7 +9,7 @@ use Rattle.std.proofs.lemmas.Option.{none-some, same_Some}
 use Rattle.std.proofs.lemmas.List.Folds.{list_any-append}
 use Rattle.std.specs.Map.{lookup, set_value}
 use Rattle.std.specs.declared.alloc.Global.{Global}
-use Rattle.std.proofs.lemmas.List.{append-nil, drop_all, take_all, take-append-drop}
+use Rattle.std.proofs.lemmas.List.{length-map, append-nil, drop_all, take_all, take-append-drop}
 use Rattle.std.proofs.lemmas.List.Elements.{filter-append, filter_map-append}
 use Rattle.indexmap.specs.IndexMap.{insert_entry}
 use Rattle.keyframe_model.specs.Models.{Spec}
@@ -271,19 +271,71 @@ all-places models p q place places model found =
     ap (λ (o : Option Spec). list_all q (filter p (cons_option o (at_places models places)))) found
     ∙ all-filter p q model (at_places models places) (p model) refl
 
+some-at : (models : List Spec) (place : ℕ) → place < length models → is_some (slice_get models place) ≡ true
+some-at [] place lt = absurd (omega arith)
+some-at (m ∷ models) zero lt = refl
+some-at (m ∷ models) (suc place) lt = some-at models place (omega arith)
+
+one-more : (o : Option Spec) (models : List Spec) (places : List ℕ) (place : ℕ) → is_some o ≡ true → length models ≡ length places
+    → length (cons_option o models) ≡ length (place ∷ places)
+one-more None models places place there rest = cc
+one-more (Some model) models places place there rest = omega arith
+
 -- as many models as places
 pub length-places : (models : List Spec) (places : List ℕ) → ((j place : ℕ) → slice_get places j ≡ Some place → place < length models)
     → length (at_places models places) ≡ length places
 length-places models [] within = refl
 length-places models (place ∷ places) within =
-    let rest = length-places models places (λ j p found. within (suc j) p found) in
-    one (slice_get models place) (here models place (within 0 place refl)) rest
+    one-more (slice_get models place) (at_places models places) places place (some-at models place (within 0 place refl))
+    (length-places models places (λ j p found. within (suc j) p found))
+
+-- a group has as many places as models
+pub length-members : (models : List Spec) (group : ℕ) → length (places_in (shape_of models) group) ≡ length (filter (λ m. group == m.group) models)
+length-members models group =
+    sym (length-places models (places_in (shape_of models) group) (shape-within models group))
+    ∙ ap (λ (ms : List Spec). length ms) (shape-members models group)
+
+-- each place of a group in a table that is the shape of the models
+pub places-within : (models : List Spec) (shape : List (ℕ × List ℕ)) (group : ℕ) (places : List ℕ)
+    → shape ≡ shape_of models → places ≡ places_in shape group
+    → (j place : ℕ) → slice_get places j ≡ Some place → place < length models
+places-within models shape group places is are j place found =
+    shape-within models group j place
+    (ap (λ (s : List (ℕ × List ℕ)). slice_get (places_in s group) j) (sym is) ∙ ap (λ (ps : List ℕ). slice_get ps j) (sym are) ∙ found)
+
+-- and the models at its places
+pub places-members : (models : List Spec) (shape : List (ℕ × List ℕ)) (group : ℕ) (places : List ℕ)
+    → shape ≡ shape_of models → places ≡ places_in shape group
+    → at_places models places ≡ filter (λ m. group == m.group) models
+places-members models shape group places is are =
+    ap (at_places models) (are ∙ ap (λ (s : List (ℕ × List ℕ)). places_in s group) is) ∙ shape-members models group
+
+-- and how many they are
+pub places-length : (models : List Spec) (shape : List (ℕ × List ℕ)) (group : ℕ) (places : List ℕ)
+    → shape ≡ shape_of models → places ≡ places_in shape group
+    → length places ≡ length (filter (λ m. group == m.group) models)
+places-length models shape group places is are =
+    ap (λ (ps : List ℕ). length ps) (are ∙ ap (λ (s : List (ℕ × List ℕ)). places_in s group) is) ∙ length-members models group
+
+-- a test that elements pass leaves no more of them
+pub filter-fewer : (p : Spec → Bool) (models : List Spec) → length (filter p models) ≤ length models
+filter-fewer p [] = omega arith
+filter-fewer p (m ∷ models) = let rest = filter-fewer p models in either (p m) (filter p models) models rest
   where
-    here : (ms : List Spec) (p : ℕ) → p < length ms → is_some (slice_get ms p) ≡ true
-    here [] p lt = absurd (omega arith)
-    here (m ∷ ms) zero lt = refl
-    here (m ∷ ms) (suc p) lt = ?
-    one : (o : Option Spec) → is_some o ≡ true → length (at_places models places) ≡ length places
-        → length (cons_option o (at_places models places)) ≡ length (place ∷ places)
-    one None some rest = cc
-    one (Some model) some rest = omega arith
+    either : (b : Bool) (few all : List Spec) → length few ≤ length all → length (cond b (m ∷ few) few) ≤ length (m ∷ all)
+    either true few all le = omega arith
+    either false few all le = omega arith
+
+-- the group at an index of a table that is the shape of the models
+pub group-found : (models : List Spec) (shape : List (ℕ × List ℕ)) (i group : ℕ)
+    → shape ≡ shape_of models
+    → slice_get (map (λ entry. entry.0) shape) i ≡ Some group
+    → slice_get (fold with_group_of [] models) i ≡ Some group
+group-found models shape i group is found =
+    ap (λ (groups : List ℕ). slice_get groups i) (sym (ap (λ (s : List (ℕ × List ℕ)). map (λ entry. entry.0) s) is ∙ shape-groups models)) ∙ found
+
+pub group-count : (models : List Spec) (shape : List (ℕ × List ℕ)) → shape ≡ shape_of models
+    → length shape ≡ length (fold with_group_of [] models)
+group-count models shape is =
+    sym (length-map shape (λ entry. entry.0))
+    ∙ ap (λ (groups : List ℕ). length groups) (ap (λ (s : List (ℕ × List ℕ)). map (λ entry. entry.0) s) is ∙ shape-groups models)

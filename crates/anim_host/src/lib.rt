@@ -16,6 +16,7 @@ mod row;
 mod rows;
 mod shape;
 mod standing;
+mod starts;
 mod steps;
 
 pub use host::AnimHost;
