@@ -1,10 +1,12 @@
 -- Loops over places and ids that put marks behind the others.
-use Rattle.std.proofs.Common.{◌≡◌, ◌≢◌, ℕ, ◌+◌, ◌≤◌, ◌<◌, Bool, true, false, List, [], ◌∷◌, ◌++◌, length, map, take, drop, filter, Option, Some, None, refl, sym, ap, ◌∙◌, arith, append_assoc}
+use Rattle.std.proofs.Common.{◌≡◌, ◌≢◌, ℕ, ◌+◌, ◌≤◌, ◌<◌, Bool, true, false, List, [], ◌∷◌, ◌++◌, length, map, take, drop, filter, Option, Some, None, refl, sym, ap, ◌∙◌, arith, append_assoc, cond, subst, zero, suc}
 use Rattle.std.specs.Prelude.{slice_get}
 use Rattle.std.proofs.lemmas.List.{append-nil, length-append}
+use Rattle.std.proofs.lemmas.Option.{none-some, same_Some}
+use Rattle.keyframe_model.specs.Models.{Spec}
 use Rattle.tree_commit.specs.Trees.{Committed}
 use Rattle.tree_commit.specs.declared.runs.mark.Mark.{Mark}
-use Rattle.anim_host.specs.MarkLists.{Marked, with_marks}
+use Rattle.anim_host.specs.MarkLists.{Marked, mark_if, with_marks}
 use Rattle.anim_host.specs.Standing.{Stood, with_new}
 use Rattle.anim_host.proofs.LoopLemmas.{made-last, made-next}
 use Rattle.anim_host.proofs.PushLemmas.{with-marks}
@@ -68,3 +70,39 @@ pub growing-last : {X : Type 0} (F : List X → List Mark) (xs : List X) (index 
 growing-last F xs index old now past none so_far =
     stood-same old now (F xs) so_far.active so_far.pending
     (with-marks old.list now.list _ (made-last F xs index now.list.marks _ past none so_far.made) so_far.cleared so_far.room)
+
+-- a mark for each model that a test lets through
+pub gives-if : (test : Spec → Bool) (mark : Spec → Mark) (model : Spec) (models : List Spec) (b : Bool)
+    → map mark (cond b (model ∷ filter test models) (filter test models)) ≡ mark_if b (mark model) ++ map mark (filter test models)
+gives-if test mark model models true = refl
+gives-if test mark model models false = refl
+
+pub one-if : (b : Bool) (mark : Mark) → length (mark_if b mark) ≤ 1
+one-if true mark = omega arith
+one-if false mark = omega arith
+
+-- marks, and then those that are worked out over them
+pub two-steps : (old mid new : Stood) (first : List Mark) (then : Option Committed → List Mark → List Mark)
+    → mid ≡ with_new old first
+    → new ≡ with_new mid (then mid.pending mid.list.marks)
+    → new ≡ with_new old (first ++ then old.pending (old.list.marks ++ first))
+two-steps old mid new first then is_mid is_new =
+    is_new
+    ∙ ap (λ (s : Stood). with_new s (then s.pending s.list.marks)) is_mid
+    ∙ ap (λ (l : List Mark). record old { list = record old.list { marks = l } })
+    (append_assoc old.list.marks first (then old.pending (old.list.marks ++ first)))
+
+-- what a test says of the models that it lets through is so of the ids of those
+pub ids-tested : (P : ℕ → Type 0) (test : Spec → Bool) (models : List Spec) → ((m : Spec) → test m ≡ true → P m.id)
+    → (j id : ℕ) → slice_get (map (λ m. m.id) (filter test models)) j ≡ Some id → P id
+ids-tested P test [] so = λ j id found. absurd (none-some id found)
+ids-tested P test (m ∷ models) so = either (test m) refl (ids-tested P test models so)
+  where
+    here : (rest : List ℕ) → test m ≡ true → ((j id : ℕ) → slice_get rest j ≡ Some id → P id)
+        → (j id : ℕ) → slice_get (m.id ∷ rest) j ≡ Some id → P id
+    here rest is others zero id found = subst P (same_Some m.id id found) (so m is)
+    here rest is others (suc j) id found = others j id found
+    either : (b : Bool) → test m ≡ b → ((j id : ℕ) → slice_get (map (λ m. m.id) (filter test models)) j ≡ Some id → P id)
+        → (j id : ℕ) → slice_get (map (λ m. m.id) (cond b (m ∷ filter test models) (filter test models))) j ≡ Some id → P id
+    either true is rest = here (map (λ m. m.id) (filter test models)) is rest
+    either false is rest = rest

@@ -15,7 +15,8 @@ use Rattle.anim_host.specs.declared.row.RunState.{RunState}
 use Rattle.anim_host.specs.declared.row.RunState.TheVariants as state
 use Rattle.std.specs.Prelude.{unsigned_abs, IfSome}
 use Rattle.anim_timeline.specs.declared.TheConstants.{LAST_TIME}
-use Rattle.anim_host.specs.MarkLists.{StartsAreWithin, start_in}
+use Rattle.std.proofs.lemmas.List.{append-nil}
+use Rattle.anim_host.specs.MarkLists.{StartsAreWithin, mark_if, start_in}
 use Rattle.anim_host.specs.States.{FinishesStarted, advanced, has_ended, run_of, runs, shown_at, state_from, state_of}
 use Rattle.anim_host.proofs.MarkLemmas.{start-found, start-later, start_within}
 
@@ -301,3 +302,17 @@ running-started marks id runs = left (is_started marks id) (not (is_ended marks 
     left : (a b : Bool) → (a && b) ≡ true → a ≡ true
     left true b is = refl
     left false b is = cc
+
+-- what started stays started
+pub started-grows : (marks : List Mark) (mark : Mark) (id : ℕ) → is_started marks id ≡ true → is_started (marks ++ mark ∷ []) id ≡ true
+started-grows marks mark id is = started-more marks mark id ∙ or-first (is_started marks id) (starts id mark) is
+
+-- an end of another model leaves what started and what ended
+pub abort-elsewhere : (marks : List Mark) (b : Bool) (model commit id : ℕ) → id ≢ model
+    → (is_started (marks ++ mark_if b (Aborted model commit)) id ≡ is_started marks id)
+    × (is_ended (marks ++ mark_if b (Aborted model commit)) id ≡ is_ended marks id)
+abort-elsewhere marks true model commit id other = (
+  started-more marks (Aborted model commit) id ∙ or_none (is_started marks id),
+  ended-more marks (Aborted model commit) id ∙ ap (λ b. is_ended marks id || b) (apart id model other) ∙ or_none (is_ended marks id),
+)
+abort-elsewhere marks false model commit id other = (ap (λ (l : List Mark). is_started l id) (append-nil marks), ap (λ (l : List Mark). is_ended l id) (append-nil marks))

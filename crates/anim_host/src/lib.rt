@@ -5,6 +5,7 @@
 //! marks, and works everything out from these. It knows neither curves nor frames.
 #![tactic(auto)]
 
+mod aborts;
 mod finish;
 mod groups;
 mod host;
@@ -17,6 +18,7 @@ mod rows;
 mod shape;
 mod standing;
 mod starts;
+mod ticks;
 mod steps;
 
 pub use host::AnimHost;
