@@ -90,3 +90,12 @@ found-there (x ∷ models) (suc i) model found = or-fact (model.id == x.id) (is_
 -- what is so of each element is so of the one at a place
 pub all-at : {X : Type 0} (P : X → Type 0) (xs : List X) (i : ℕ) (x : X) → All P xs → slice_get xs i ≡ Some x → P x
 all-at P xs i x all found = subst P (get_or_from_slice_get xs i x x found) (all i x (slice_get_within xs i x found))
+
+-- a model of the list is there by its id
+pub among-there : (models : List Spec) (model : Spec) → IsAmong model models → is_among models model.id ≡ true
+among-there [] model among = absurd among
+among-there (x ∷ models) model among =
+    elim among [
+      | inl same ↦ ap (λ b. b || is_among models model.id) (eq-eqb model.id x.id (ap (λ (m : Spec). m.id) same))
+      | inr rest ↦ or-fact (model.id == x.id) (is_among models model.id) (among-there models model rest)
+    ]

@@ -1,5 +1,5 @@
 -- How far models have come: what one more mark changes, and what a state says.
-use Rattle.std.proofs.Common.{◌≡◌, ◌≢◌, ℕ, ◌+◌, ◌≤◌, Bool, true, false, not, ◌||◌, List, [], ◌∷◌, ◌++◌, length, Option, Some, None, refl, sym, ap, ◌∙◌, cond, arith, inl, inr}
+use Rattle.std.proofs.Common.{◌≡◌, ◌≢◌, ℕ, ◌+◌, ◌≤◌, Bool, true, false, not, ◌||◌, List, [], ◌∷◌, ◌++◌, length, Option, Some, None, refl, sym, ap, ◌∙◌, cond, arith, subst, inl, inr}
 use Rattle.std.specs.Prelude.{ℤ, is_some, if◌then◌else◌, ◌==◌, ◌&&◌}
 use Rattle.std.specs.List.{list_any}
 use Rattle.std.proofs.lemmas.List.Folds.{list_any-append}
@@ -9,6 +9,11 @@ use Rattle.std.proofs.lemmas.Bool.{eq-eqb}
 use Rattle.tree_commit.specs.declared.runs.mark.Mark.{Mark}
 use Rattle.tree_commit.specs.declared.runs.mark.Mark.TheVariants.{Started, Finished, Aborted}
 use Rattle.tree_commit.specs.declared.runs.shown.Shown.{Shown}
+use Rattle.std.specs.Prelude.{IsTrue}
+use Rattle.keyframe_model.specs.Models.{Spec}
+use Rattle.tree_commit.specs.Trees.{TreeLists}
+use Rattle.tree_commit.specs.Follows.{Follows, IsAmong, has_mark}
+use Rattle.anim_host.proofs.AmongLemmas.{among-there}
 use Rattle.tree_commit.specs.Frames.{shown_by}
 use Rattle.tree_commit.specs.Marks.{aborts, ends, is_aborted, is_ended, is_running, is_started, model_of, start_from, start_of, starts}
 use Rattle.anim_host.specs.declared.row.RunState.{RunState}
@@ -17,7 +22,7 @@ use Rattle.std.specs.Prelude.{unsigned_abs, IfSome}
 use Rattle.anim_timeline.specs.declared.TheConstants.{LAST_TIME}
 use Rattle.std.proofs.lemmas.List.{append-nil}
 use Rattle.anim_host.specs.MarkLists.{StartsAreWithin, mark_if, start_in}
-use Rattle.anim_host.specs.States.{FinishesStarted, advanced, has_ended, run_of, runs, shown_at, state_from, state_of}
+use Rattle.anim_host.specs.States.{FinishesStarted, advanced, is_among, has_ended, run_of, runs, shown_at, state_from, state_of}
 use Rattle.anim_host.proofs.MarkLemmas.{start-found, start-later, start_within}
 
 -- ---- marks with one more
@@ -316,3 +321,42 @@ abort-elsewhere marks true model commit id other = (
   ended-more marks (Aborted model commit) id ∙ ap (λ b. is_ended marks id || b) (apart id model other) ∙ or_none (is_ended marks id),
 )
 abort-elsewhere marks false model commit id other = (ap (λ (l : List Mark). is_started l id) (append-nil marks), ap (λ (l : List Mark). is_ended l id) (append-nil marks))
+
+-- a model of which there is no mark waits
+unmarked : (marks : List Mark) (id : ℕ) → has_mark marks id ≡ false
+    → (is_aborted marks id ≡ false) × (is_ended marks id ≡ false) × (is_started marks id ≡ false)
+unmarked [] id none = (refl, refl, refl)
+unmarked (Started model group element property at start ∷ marks) id none =
+    let both = or-neither (id == model) (has_mark marks id) none in
+    let rest = unmarked marks id both.1 in
+    (rest.0, rest.1, ap (λ b. b || is_started marks id) both.0 ∙ rest.2)
+unmarked (Finished model at ∷ marks) id none =
+    let both = or-neither (id == model) (has_mark marks id) none in
+    let rest = unmarked marks id both.1 in
+    (rest.0, ap (λ b. b || is_ended marks id) both.0 ∙ rest.1, rest.2)
+unmarked (Aborted model commit ∷ marks) id none =
+    let both = or-neither (id == model) (has_mark marks id) none in
+    let rest = unmarked marks id both.1 in
+    (ap (λ b. b || is_aborted marks id) both.0 ∙ rest.0, ap (λ b. b || is_ended marks id) both.0 ∙ rest.1, rest.2)
+
+waiting-from : (aborted ended : Bool) (start : Option Shown) → aborted ≡ false → is_some start ≡ false → state_from aborted ended start ≡ state.Waiting
+waiting-from true ended start alive none = cc
+waiting-from false ended None alive none = refl
+waiting-from false ended (Some shown) alive none = cc
+
+pub unmarked-waits : (marks : List Mark) (id : ℕ) → has_mark marks id ≡ false → state_of marks id ≡ state.Waiting
+unfolding state_of
+unmarked-waits marks id none =
+    let parts = unmarked marks id none in
+    waiting-from (is_aborted marks id) (is_ended marks id) (start_of marks id) parts.0 (start_of-started marks id ∙ parts.2)
+
+-- a model of a commit that follows waits where it is not in the active one
+pub follows-waits : (active pending : TreeLists) (marks : List Mark) → Follows active pending marks
+    → (model : Spec) → IsAmong model pending.models → is_among active.models model.id ≡ false → state_of marks model.id ≡ state.Waiting
+follows-waits active pending marks follows model among gone = either (has_mark marks model.id) refl
+  where
+    either : (b : Bool) → has_mark marks model.id ≡ b → state_of marks model.id ≡ state.Waiting
+    either false none = unmarked-waits marks model.id none
+    either true some =
+        let there : is_among active.models model.id ≡ true = among-there active.models model (follows.marked model among some) in
+        cc

@@ -1,5 +1,6 @@
 -- What the tables of a host stand for: the active commit, the pending one or none, and the marks.
-use Rattle.std.specs.Prelude.{◌≡◌, ℕ, List, Option}
+use Rattle.std.specs.Prelude.{◌≡◌, ℕ, ◌+◌, ◌≤◌, List, length, Option, IfSome, option_map}
+use Rattle.anim_host.specs.Shapes.{shape_of}
 use Rattle.tree_commit.specs.declared.runs.mark.Mark.{Mark}
 use Rattle.tree_commit.specs.Trees.{Committed}
 use Rattle.anim_host.specs.MarkLists.{Marked, with_marks}
@@ -21,3 +22,10 @@ pub record Stood : Type 0 where
 -- with new marks behind the others
 abbrev pub with_new : Stood → List Mark → Stood
 with_new stood new = record stood { list = with_marks stood.list new }
+
+-- The groups of each commit with the places of their models are those of the commits. Where a commit is pending, there is
+-- room for a mark for each model of the active one.
+pub record GoTogether (stood : Stood) (shape : List (ℕ × List ℕ)) (next : Option (List (ℕ × List ℕ))) : Type 0 where
+  pub of_active : shape ≡ shape_of stood.active.tree.models
+  pub of_pending : next ≡ option_map (λ commit. shape_of commit.tree.models) stood.pending
+  pub roomy : IfSome stood.pending (λ commit. length stood.list.marks + length stood.active.tree.models ≤ stood.list.room)
