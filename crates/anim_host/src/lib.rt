@@ -7,7 +7,6 @@
 
 mod aborts;
 mod finish;
-mod groups;
 mod host;
 pub mod laws;
 mod mark_list;
@@ -19,7 +18,6 @@ mod shape;
 mod standing;
 mod starts;
 mod ticks;
-mod steps;
 
 pub use host::AnimHost;
 

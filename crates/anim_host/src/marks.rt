@@ -13,77 +13,11 @@ use tree_commit::{Mark, Shown};
 
 // ---- of a model
 
-/// Whether the model started.
-pub(crate) fn is_started(marks: &[Mark], id: ModelId) -> bool
-    ensures { result ≡ is_started marks.now id }
-{
-    marks.iter().any(|mark| starts(mark, id))
-}
-
-/// Whether the model finished or was aborted.
-pub(crate) fn is_ended(marks: &[Mark], id: ModelId) -> bool
+// Whether the model finished or was aborted.
+fn is_ended(marks: &[Mark], id: ModelId) -> bool
     ensures { result ≡ is_ended marks.now id }
 {
     marks.iter().any(|mark| ends(mark, id))
-}
-
-/// Whether the model started and did not end.
-pub(crate) fn is_running(marks: &[Mark], id: ModelId) -> bool
-    ensures { result ≡ is_running marks.now id }
-{
-    is_started(marks, id) && !is_ended(marks, id)
-}
-
-/// What is shown of the model: nothing before it started and once it was aborted.
-pub(crate) fn shown_by(marks: &[Mark], id: ModelId) -> Option<Shown>
-    requires { length marks.now ≤ MOST_MARKS }
-    ensures { result ≡ shown_by marks.now id }
-{
-    if is_aborted(marks, id) {
-        None
-    } else {
-        start_of(marks, id)
-    }
-}
-
-fn is_aborted(marks: &[Mark], id: ModelId) -> bool
-    ensures { result ≡ is_aborted marks.now id }
-{
-    marks.iter().any(|mark| aborts(mark, id))
-}
-
-/// The start that was recorded for the model, and the index of that mark.
-pub(crate) fn start_of(marks: &[Mark], id: ModelId) -> Option<Shown>
-    requires { length marks.now ≤ MOST_MARKS }
-    ensures { result ≡ start_of marks.now id }
-{
-    for index in 0..marks.len() {
-        if let Some(start) = start_in(&marks[index], id) {
-            let order = index as u32;
-            return Some(Shown { start, order });
-        }
-    }
-    None
-}
-
-// The start that the mark records for the model.
-fn start_in(mark: &Mark, id: ModelId) -> Option<i64>
-    ensures { result ≡ start_in id mark.now }
-{
-    match *mark {
-        Mark::Started { model, start, .. } if id == model => Some(start),
-        _ => None,
-    }
-}
-
-fn starts(mark: &Mark, id: ModelId) -> bool
-    ensures { result ≡ starts id mark.now }
-{
-    match *mark {
-        Mark::Started { model, .. } => id == model,
-        Mark::Finished { .. } => false,
-        Mark::Aborted { .. } => false,
-    }
 }
 
 fn ends(mark: &Mark, id: ModelId) -> bool
@@ -92,16 +26,6 @@ fn ends(mark: &Mark, id: ModelId) -> bool
     match *mark {
         Mark::Started { .. } => false,
         Mark::Finished { model, .. } => id == model,
-        Mark::Aborted { model, .. } => id == model,
-    }
-}
-
-fn aborts(mark: &Mark, id: ModelId) -> bool
-    ensures { result ≡ aborts id mark.now }
-{
-    match *mark {
-        Mark::Started { .. } => false,
-        Mark::Finished { .. } => false,
         Mark::Aborted { model, .. } => id == model,
     }
 }
