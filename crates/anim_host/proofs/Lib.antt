@@ -10,3 +10,4 @@ pub mod AmongLemmas
 pub mod StandLemmas
 pub mod ShapeLemmas
 pub mod GrowLemmas
+pub mod FitLemmas

@@ -4,3 +4,4 @@ pub mod Rows
 pub mod States
 pub mod Standing
 pub mod Shapes
+pub mod Fits
