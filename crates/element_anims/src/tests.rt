@@ -1,0 +1,9 @@
+use super::*;
+
+fn is_shared<T: Send + Sync>() {}
+
+#[test]
+fn tables_cross_threads() {
+    is_shared::<ElementRow>();
+    is_shared::<ElementAnims>();
+}
