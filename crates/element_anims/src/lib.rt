@@ -7,7 +7,6 @@
 mod row;
 mod table;
 
-pub use row::ElementRow;
 pub use table::ElementAnims;
 
 #[cfg(test)]

@@ -1,19 +1,31 @@
 use anim_names::{GroupId, Property, Tree};
 
 ghost use Rattle.std.specs.Prelude.{◌≡◌};
-ghost use Rattle.element_anims.specs.Elements.{blocker_in, idle_row, is_idle, is_in_tree, with_blocker, with_presence};
+ghost use Rattle.element_anims.specs.Rows.{blocker_in, idle_row, is_idle, is_in_tree, with_blocker, with_presence};
 
-/// What is kept of one element.
+use std::marker::Model;
+
+/// What is kept of one element. Contracts see a `Row`.
 #[derive(Clone, Copy, Debug, PartialEq, Eq)]
-pub struct ElementRow {
+pub(crate) struct ElementRow {
     /// Whether the pending tree has the element.
-    pub pending: bool,
+    pending: bool,
     /// Whether the active tree has the element.
-    pub active: bool,
+    active: bool,
     /// The group that blocks its opacity.
-    pub opacity: Option<GroupId>,
+    opacity: Option<GroupId>,
     /// The group that blocks its transform.
-    pub transform: Option<GroupId>,
+    transform: Option<GroupId>,
+}
+
+impl Model for ElementRow {
+    ghost use Rattle.element_anims.specs.Rows.{Row, row_parts};
+
+    ghost Value = { Row };
+
+    ghost view = { λ r. row_parts r.pending r.active r.opacity r.transform };
+
+    ghost inverse = { λ v. record { pending = v.pending; active = v.active; opacity = v.opacity; transform = v.transform } };
 }
 
 impl ElementRow {

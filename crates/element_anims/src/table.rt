@@ -1,8 +1,10 @@
-ghost use Rattle.std.specs.Prelude.{ℕ, ◌==◌, if◌then◌else◌, ◌≡◌, ◌+◌, ◌<◌, ◌≤◌, nat_eq, true, false, None, Some, IfOk, OnOk, OnErr};
+ghost use Rattle.std.specs.Prelude.{ℕ, ◌==◌, if◌then◌else◌, ◌≡◌, ◌+◌, ◌<◌, ◌≤◌, nat_eq, true, false, None, Some, IsSome, IfOk, OnOk, OnErr};
 ghost use Rattle.std.specs.Map.{lookup};
-ghost use Rattle.element_anims.specs.Elements.{Anims, HasRoomFor, IsSetBlocker, IsSetPresent, KeepsNoIdleRow, SaysTheSame, blocker_of, is_idle, is_known, is_present, room_for, row_of};
+ghost use Rattle.element_anims.specs.Elements.{Anims, HasRoomFor, IsSetBlocker, IsSetPresent, SaysTheSame, blocker_of, is_known, is_present, room_for, row_of};
 
-use crate::ElementRow;
+ghost use Rattle.element_anims.specs.Rows.{Row, idle_row, is_idle};
+
+use crate::row::ElementRow;
 use anim_names::{ElementId, GroupId, Property, Tree};
 use indexmap::IndexMap;
 use std::alloc::{AllocError, Global};
@@ -30,7 +32,7 @@ impl Model for ElementAnims {
 
     ghost view = { λ t. record { rows = t.rows.entries; room = spare t.rows } };
 
-    ghost invariant = { λ t. KeepsNoIdleRow (record { rows = t.rows.entries; room = spare t.rows }) };
+    ghost invariant = { λ t. KeepsNoIdleRow t.rows.entries };
 }
 
 impl ElementAnims {
@@ -111,15 +113,59 @@ impl ElementAnims {
     // Keeps the row of the element, unless it says nothing.
     fn put(&mut self, element: ElementId, row: ElementRow)
         requires { is_idle row ≡ false → HasRoomFor self.old element }
-        ensures row { (e : ℕ) → row_of self.new e ≡ (if e == element then row else row_of self.old e) }
-        ensures room { self.old.room ≤ self.new.room + (if is_known self.old element then 0 else if is_idle row then 0 else 1) }
+        ensures row { (e : ℕ) → row_of self.new e ≡ (if element == e then row else row_of self.old e) }
+        ensures room { self.old.room ≤ self.new.room + room_for self.old element }
+        ensures room_kept { is_idle row ≡ true → self.old.room ≤ self.new.room }
     {
         if row.is_idle() {
-            self.rows.swap_remove(&element);
+            self.forget(element);
         } else {
-            let Ok(_old) = self.rows.insert(element, row) else {
-                unreachable!()
-            };
+            self.keep(element, row);
         }
+    }
+
+    // Nothing is kept of the element any more.
+    fn forget(&mut self, element: ElementId)
+        ensures row { (e : ℕ) → row_of self.new e ≡ (if element == e then idle_row else row_of self.old e) }
+        ensures room { self.old.room ≤ self.new.room }
+    {
+        self.rows.swap_remove(&element);
+    }
+
+    // Keeps a row that says something.
+    fn keep(&mut self, element: ElementId, row: ElementRow)
+        requires says { is_idle row ≡ false }
+        requires room_for { HasRoomFor self.old element }
+        ensures row { (e : ℕ) → row_of self.new e ≡ (if element == e then row else row_of self.old e) }
+        ensures room { self.old.room ≤ self.new.room + room_for self.old element }
+    {
+        if self.rows.contains_key(&element) {
+            self.replace(element, row);
+        } else {
+            self.add(element, row);
+        }
+    }
+
+    // Keeps another row of an element that has one.
+    fn replace(&mut self, element: ElementId, row: ElementRow)
+        requires says { is_idle row ≡ false }
+        requires there { IsSome (lookup (nat_eq element) self.old.rows) }
+        ensures row { (e : ℕ) → row_of self.new e ≡ (if element == e then row else row_of self.old e) }
+        ensures room { self.old.room ≤ self.new.room }
+    {
+        *self.rows.get_mut(&element).unwrap() = row;
+    }
+
+    // Keeps the row of an element that has none.
+    fn add(&mut self, element: ElementId, row: ElementRow)
+        requires says { is_idle row ≡ false }
+        requires absent { lookup (nat_eq element) self.old.rows ≡ None }
+        requires room_for { 0 < self.old.room }
+        ensures row { (e : ℕ) → row_of self.new e ≡ (if element == e then row else row_of self.old e) }
+        ensures room { self.old.room ≤ self.new.room + 1 }
+    {
+        let Ok(_old) = self.rows.insert(element, row) else {
+            unreachable!()
+        };
     }
 }
