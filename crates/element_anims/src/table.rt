@@ -1,8 +1,7 @@
-ghost use Rattle.std.specs.Prelude.{ℕ, ◌==◌, if◌then◌else◌, ◌≡◌, ◌+◌, ◌<◌, ◌≤◌, nat_eq, true, false, None, Some, IsSome, IfOk, OnOk, OnErr};
+ghost use Rattle.std.specs.Prelude.{◌≡◌, ℕ, ◌+◌, ◌==◌, ◌<◌, ◌≤◌, nat_eq, true, false, if◌then◌else◌, None, Some, IsSome, IfOk, OnOk};
 ghost use Rattle.std.specs.Map.{lookup};
-ghost use Rattle.element_anims.specs.Elements.{Anims, HasRoomFor, IsSetBlocker, IsSetPresent, SaysTheSame, blocker_of, is_known, is_present, room_for, row_of};
-
-ghost use Rattle.element_anims.specs.Rows.{Row, idle_row, is_idle};
+ghost use Rattle.element_anims.specs.Elements.{HasRoomFor, IsSetBlocker, IsSetPresent, SaysTheSame, blocker_of, is_present, room_for, row_of};
+ghost use Rattle.element_anims.specs.Rows.{idle_row, is_idle};
 
 use crate::row::ElementRow;
 use anim_names::{ElementId, GroupId, Property, Tree};
@@ -54,6 +53,13 @@ impl ElementAnims {
         ensures same { SaysTheSame self.old self.new }
     {
         self.rows.reserve(elements as usize)
+    }
+
+    /// How many elements that are not known yet it can keep without memory.
+    pub fn spare(&self) -> usize
+        ensures { result ≡ self.now.room }
+    {
+        self.rows.capacity() - self.rows.len()
     }
 
     /// Says whether a tree has the element.
