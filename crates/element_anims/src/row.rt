@@ -1,8 +1,7 @@
-use anim_names::{GroupId, Property, Tree};
-
 ghost use Rattle.std.specs.Prelude.{◌≡◌};
 ghost use Rattle.element_anims.specs.Rows.{blocker_in, idle_row, is_idle, is_in_tree, with_blocker, with_presence};
 
+use anim_names::{GroupId, Property, Tree};
 use std::marker::Model;
 
 /// What is kept of one element. Contracts see a `Row`.

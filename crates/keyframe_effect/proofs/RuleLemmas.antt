@@ -1,13 +1,13 @@
 -- A group's row that tells the truth follows the rule.
-use Rattle.std.proofs.Common.{◌≡◌, ℕ, ◌==◌, eqb-true, Bool, true, false, not, ◌&&◌, ◌||◌, nat_lt, List, [], ◌∷◌, filter, cond, is_some, refl, sym, ap, ◌∙◌, true≢false}
+use Rattle.std.proofs.Common.{◌≡◌, ◌==◌, eqb-true, Bool, true, false, not, ◌&&◌, ◌||◌, nat_lt, List, [], ◌∷◌, filter, cond, is_some, refl, sym, ap, ◌∙◌, true≢false}
 use Rattle.std.specs.List.{list_any, list_all}
 use Rattle.anim_names.specs.declared.property.Property.{Property}
 use Rattle.anim_names.specs.declared.property.Property.TheVariants.{Opacity, Transform}
 use Rattle.keyframe_model.specs.Models.{Spec, property_of, same_property}
-use Rattle.element_anims.specs.Elements.{Anims}
+use Rattle.element_anims.specs.Elements.{Anims, is_property}
 use Rattle.keyframe_effect.specs.declared.group.GroupRow.{GroupRow}
 use Rattle.keyframe_effect.specs.Ready.{is_blocked_for, is_there, is_ready}
-use Rattle.keyframe_effect.specs.Rule.{has_some, animates, may_all_start, TellsOf, IsInTable, RowsFollowTheRule}
+use Rattle.keyframe_effect.specs.Rule.{has_some, animates, may_all_start, IsInTable, RowsFollowTheRule}
 
 -- ---- the models of a group, picked from a list
 
@@ -86,36 +86,36 @@ before false there o t ob tb = refl
 module _ (row : GroupRow) (table : Anims) (pending_holds : Bool) (test : Spec → Bool)
     (agrees : IsInTable row table pending_holds test)
   where
-  abbrev there : Bool
-  there = is_there table row.element pending_holds
+    abbrev there : Bool
+    there = is_there table row.element pending_holds
 
-  abbrev blocked : Property → Bool
-  blocked property = is_blocked_for table row.group row.element property
+    abbrev blocked : Property → Bool
+    blocked property = is_blocked_for table row.group row.element property
 
-  -- one model of the group
-  one : (model : Spec) → model.group ≡ row.group → model.element ≡ row.element
-      → test model ≡ (there && not (answer_of (property_of model) (blocked Opacity) (blocked Transform)))
-  one model group element =
-      agrees model group element
-      ∙ (λ i. is_there table (element i) pending_holds && not (is_blocked_for table (group i) (element i) (property_of model)))
-      ∙ by (property_of model)
-    where
-      by : (kind : Property) → (there && not (blocked kind)) ≡ (there && not (answer_of kind (blocked Opacity) (blocked Transform)))
-      by Opacity = refl
-      by Transform = refl
+    -- one model of the group
+    one : (model : Spec) → model.group ≡ row.group → model.element ≡ row.element
+        → test model ≡ (there && not (answer_of (property_of model) (blocked Opacity) (blocked Transform)))
+    one model group element =
+        agrees model group element
+        ∙ (λ i. is_there table (element i) pending_holds && not (is_blocked_for table (group i) (element i) (property_of model)))
+        ∙ by (property_of model)
+      where
+        by : (kind : Property) → (there && not (blocked kind)) ≡ (there && not (answer_of kind (blocked Opacity) (blocked Transform)))
+        by Opacity = refl
+        by Transform = refl
 
-  -- all of them
-  all : (models : List Spec) → list_all (λ model. row.group == model.group) models ≡ true
-      → list_all (λ model. row.element == model.element) models ≡ true
-      → list_all test models
-      ≡ may there (has_some models) (animates Opacity models) (animates Transform models) (blocked Opacity) (blocked Transform)
-  all [] groups elements = refl
-  all (model ∷ models) groups elements =
-      let g = both (row.group == model.group) _ groups in
-      let e = both (row.element == model.element) _ elements in
-      let this = one model (sym (eqb-true row.group model.group g.0)) (sym (eqb-true row.element model.element e.0)) in
-      (λ i. this i && all models g.1 e.1 i)
-      ∙ one_more (property_of model) there (has_some models) (animates Opacity models) (animates Transform models)
+    -- all of them
+    all : (models : List Spec) → list_all (λ model. row.group == model.group) models ≡ true
+        → list_all (λ model. row.element == model.element) models ≡ true
+        → list_all test models
+        ≡ may there (has_some models) (animates Opacity models) (animates Transform models) (blocked Opacity) (blocked Transform)
+    all [] groups elements = refl
+    all (model ∷ models) groups elements =
+        let g = both (row.group == model.group) _ groups in
+        let e = both (row.element == model.element) _ elements in
+        let this = one model (sym (eqb-true row.group model.group g.0)) (sym (eqb-true row.element model.element e.0)) in
+        (λ i. this i && all models g.1 e.1 i)
+        ∙ one_more (property_of model) there (has_some models) (animates Opacity models) (animates Transform models)
         (blocked Opacity) (blocked Transform)
 
 pub rows_follow : RowsFollowTheRule
@@ -131,10 +131,19 @@ rows_follow row table pending_holds models has_started test tells agrees = by ha
         ∙ (λ i. has_some models && not (sym is i) && list_all test models)
     by false is =
         (λ i. tells.waiting is i && not ((tells.started ∙ is) i) && is_there table row.element pending_holds
-            && not (tells.opacity is i && is_blocked_for table row.group row.element Opacity)
-            && not (tells.transform is i && is_blocked_for table row.group row.element Transform))
+        && not (tells.opacity is i && is_blocked_for table row.group row.element Opacity)
+        && not (tells.transform is i && is_blocked_for table row.group row.element Transform))
         ∙ before (has_some models) (is_there table row.element pending_holds) (animates Opacity models)
         (animates Transform models) (is_blocked_for table row.group row.element Opacity)
         (is_blocked_for table row.group row.element Transform)
         ∙ (λ i. has_some models && not (sym is i)
-            && sym (all row table pending_holds test agrees models tells.own_group tells.own_element) i)
+        && sym (all row table pending_holds test agrees models tells.own_group tells.own_element) i)
+
+-- ---- two tests of properties
+
+-- The table of elements tells properties apart as models do.
+pub is_property-same : (a b : Property) → is_property a b ≡ same_property a b
+is_property-same Opacity Opacity = refl
+is_property-same Opacity Transform = refl
+is_property-same Transform Opacity = refl
+is_property-same Transform Transform = refl

@@ -1,5 +1,5 @@
 -- Whether a group may start, by its models: the rule that its row stands for.
-use Rattle.std.specs.Prelude.{◌≡◌, ℕ, Bool, true, false, not, ◌==◌, ◌&&◌, nat_lt, List, is_some}
+use Rattle.std.specs.Prelude.{◌≡◌, Bool, true, false, not, ◌==◌, ◌&&◌, nat_lt, List, is_some}
 use Rattle.std.specs.List.{list_any, list_all}
 use Rattle.anim_names.specs.declared.property.Property.{Property}
 use Rattle.anim_names.specs.declared.property.Property.TheVariants.{Opacity, Transform}

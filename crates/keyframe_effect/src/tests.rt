@@ -66,12 +66,30 @@ fn expect_run(rt: &impl Abort, row: &mut ModelRow)
     requires { row.old.state ≡ RunState.Waiting }
 {
     row.start(-5, 9);
-    assert!(rt; row.state == RunState::Running { start: -5, order: 9 });
+    assert!(rt;
+        row.state
+            == RunState::Running {
+                start: -5,
+                order: 9
+            }
+    );
     row.mark_done();
-    assert!(rt; row.state == RunState::Done { start: -5, order: 9 });
+    assert!(rt;
+        row.state
+            == RunState::Done {
+                start: -5,
+                order: 9
+            }
+    );
     assert!(rt; !row.is_ended());
     row.finish();
-    assert!(rt; row.state == RunState::Finished { start: -5, order: 9 });
+    assert!(rt;
+        row.state
+            == RunState::Finished {
+                start: -5,
+                order: 9
+            }
+    );
     assert!(rt; row.is_ended());
 }
 
