@@ -11,3 +11,4 @@ pub mod StandLemmas
 pub mod ShapeLemmas
 pub mod GrowLemmas
 pub mod FitLemmas
+pub mod BlockLemmas

@@ -30,14 +30,14 @@ use Rattle.anim_host.proofs.MarkLemmas.{start-found, start-later, start_within}
 apart : (id other : ℕ) → id ≢ other → (id == other) ≡ false
 apart id other differ = elim (eqb_tells id other) [ inl t ↦ absurd (differ t.1) | inr f ↦ f.0 ]
 
-one_any : {A : Type 0} (p : A → Bool) (xs : List A) (x : A) → list_any p (xs ++ x ∷ []) ≡ (list_any p xs || p x)
+pub one_any : {A : Type 0} (p : A → Bool) (xs : List A) (x : A) → list_any p (xs ++ x ∷ []) ≡ (list_any p xs || p x)
 one_any p xs x = list_any-append p xs (x ∷ []) ∙ ap (λ b. list_any p xs || b) (or_no (p x))
   where
     or_no : (b : Bool) → (b || false) ≡ b
     or_no true = refl
     or_no false = refl
 
-or_none : (b : Bool) → (b || false) ≡ b
+pub or_none : (b : Bool) → (b || false) ≡ b
 or_none true = refl
 or_none false = refl
 

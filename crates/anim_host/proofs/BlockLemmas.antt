@@ -1,0 +1,209 @@
+-- Which group blocks what: what a start and an end change.
+use Rattle.std.proofs.Common.{◌≡◌, ◌≢◌, ◌⊎◌, ℕ, Bool, true, false, not, ◌||◌, List, [], ◌∷◌, ◌++◌, Option, Some, None, refl, sym, ap, subst, ◌∙◌, nat_eq, inl, inr}
+use Rattle.std.specs.Prelude.{◌==◌, ◌&&◌, ℤ, filter_map, if◌then◌else◌}
+use Rattle.std.specs.List.{list_any, cons_option}
+use Rattle.std.proofs.lemmas.Bool.{eq-eqb, eqb-true}
+use Rattle.std.proofs.lemmas.Bool.Decides.{eqb_tells}
+use Rattle.anim_names.specs.declared.property.Property.{Property}
+use Rattle.anim_names.specs.declared.property.Property.TheVariants.{Opacity, Transform}
+use Rattle.element_anims.specs.Elements.{Anims, IsSetBlocker, blocker_of, is_property}
+use Rattle.keyframe_effect.specs.Ready.{is_other}
+use Rattle.keyframe_model.specs.Models.{Spec, same_property}
+use Rattle.tree_commit.specs.declared.runs.mark.Mark.{Mark}
+use Rattle.tree_commit.specs.declared.runs.mark.Mark.TheVariants.{Started, Finished, Aborted}
+use Rattle.tree_commit.specs.Follows.{IsAmong}
+use Rattle.tree_commit.specs.Marks.{blocks, ends, is_blocked_for, is_ended, is_group_running, model_of, started_group, starts_in, starts_on}
+use Rattle.anim_host.specs.Fits.{AgreesWith, BlocksStand, IsOf, IsReleased, IsThereIfRunning, MarksFit, is_held_by}
+use Rattle.anim_host.specs.States.{is_among}
+use Rattle.anim_host.proofs.FitLemmas.{among-append, any-found, any-true, both-ways, ended-before}
+use Rattle.anim_host.proofs.StateLemmas.{ended-more, one_any, or_none}
+
+-- ---- tests
+
+and-first : (a b : Bool) → (a && b) ≡ true → a ≡ true
+and-first true b is = refl
+and-first false b is = is
+
+and-second : (a b : Bool) → (a && b) ≡ true → b ≡ true
+and-second true b is = is
+and-second false b is = cc
+
+and-both : (a b : Bool) → a ≡ true → b ≡ true → (a && b) ≡ true
+and-both true b one two = two
+and-both false b one two = one
+
+not-true : (b : Bool) → not b ≡ true → b ≡ false
+not-true true is = cc
+not-true false is = refl
+
+from-false : (b : Bool) → b ≡ false → not b ≡ true
+from-false true is = cc
+from-false false is = refl
+
+apart-test : (a b : ℕ) → a ≢ b → (a == b) ≡ false
+apart-test a b differ = elim (eqb_tells a b) [ inl t ↦ absurd (differ t.1) | inr f ↦ f.0 ]
+
+-- what implies another test is the two together
+and-implied : (a b : Bool) → (b ≡ true → a ≡ true) → (a && b) ≡ b
+and-implied true b so = refl
+and-implied false true so = so refl
+and-implied false false so = refl
+
+-- ---- groups that run
+
+pub group-runs : (marks : List Mark) (group : ℕ) (mark : Mark) → IsAmong mark marks → starts_in group mark ≡ true
+    → is_ended marks (model_of mark) ≡ false → is_group_running marks group ≡ true
+group-runs marks group mark among starts alive =
+    any-true (λ (k : Mark). starts_in group k && not (is_ended marks (model_of k))) marks mark among
+    (and-both (starts_in group mark) (not (is_ended marks (model_of mark))) starts (from-false (is_ended marks (model_of mark)) alive))
+
+pub group-runs-by : (marks : List Mark) (group : ℕ) → is_group_running marks group ≡ true
+    → (mark : Mark) × IsAmong mark marks × (starts_in group mark ≡ true) × (is_ended marks (model_of mark) ≡ false)
+group-runs-by marks group is =
+    let found = any-found (λ (k : Mark). starts_in group k && not (is_ended marks (model_of k))) marks is in
+    (found.0, found.1, and-first (starts_in group found.0) (not (is_ended marks (model_of found.0))) found.2,
+    not-true (is_ended marks (model_of found.0)) (and-second (starts_in group found.0) (not (is_ended marks (model_of found.0))) found.2))
+
+-- a running group has started
+pub running-starts : (marks : List Mark) (group : ℕ) → is_group_running marks group ≡ true → list_any (starts_in group) marks ≡ true
+running-starts marks group is =
+    let by = group-runs-by marks group is in
+    any-true (starts_in group) marks by.0 by.1 by.2
+
+agree-group : (mark : Mark) (model : Spec) (group : ℕ) → AgreesWith mark model → starts_in group mark ≡ true → model_of mark ≡ model.id → group ≡ model.group
+agree-group (Started id own element property at start) model group agrees is same = eqb-true group own is ∙ agrees.0 same
+agree-group (Finished id at) model group agrees is same = cc
+agree-group (Aborted id commit) model group agrees is same = cc
+
+agree-element : (mark : Mark) (model : Spec) (e : ℕ) (p : Property) → AgreesWith mark model → starts_in model.group mark ≡ true → starts_on e p mark ≡ true → e ≡ model.element
+agree-element (Started id own element property at start) model e p agrees is on =
+    eqb-true e element (and-first (e == element) (same_property p property) on) ∙ agrees.1 (sym (eqb-true model.group own is))
+agree-element (Finished id at) model e p agrees is on = cc
+agree-element (Aborted id commit) model e p agrees is on = cc
+
+pub there-running : (models : List Spec) (marks : List Mark) (mark : Mark) (group : ℕ) → IsThereIfRunning models marks mark
+    → starts_in group mark ≡ true → is_ended marks (model_of mark) ≡ false → is_among models (model_of mark) ≡ true
+there-running models marks (Started id own element property at start) group there is alive = there alive
+there-running models marks (Finished id at) group there is alive = cc
+there-running models marks (Aborted id commit) group there is alive = cc
+
+-- ---- one more start
+
+alive-same : (marks : List Mark) (id group element : ℕ) (property : Property) (at : ℕ) (start : ℤ) (other : ℕ)
+    → is_ended (marks ++ Started id group element property at start ∷ []) other ≡ is_ended marks other
+alive-same marks id group element property at start other = ended-more marks (Started id group element property at start) other ∙ or_none (is_ended marks other)
+
+-- the starting group runs
+pub start-runs : (marks : List Mark) (id group element : ℕ) (property : Property) (at : ℕ) (start : ℤ) → is_ended marks id ≡ false
+    → is_group_running (marks ++ Started id group element property at start ∷ []) group ≡ true
+start-runs marks id group element property at start alive =
+    group-runs (marks ++ Started id group element property at start ∷ []) group (Started id group element property at start)
+    (last marks (Started id group element property at start)) (eq-eqb group group refl) (alive-same marks id group element property at start id ∙ alive)
+  where
+    last : (ms : List Mark) (m : Mark) → IsAmong m (ms ++ m ∷ [])
+    last [] m = inl refl
+    last (x ∷ ms) m = inr (last ms m)
+
+among-more : (marks : List Mark) (mark last : Mark) → IsAmong mark marks → IsAmong mark (marks ++ last ∷ [])
+among-more [] mark last among = absurd among
+among-more (m ∷ marks) mark last among = elim among [ inl same ↦ inl same | inr rest ↦ inr (among-more marks mark last rest) ]
+
+-- another group runs where it did
+start-elsewhere : (marks : List Mark) (id group element : ℕ) (property : Property) (at : ℕ) (start : ℤ) (other : ℕ) → other ≢ group
+    → is_group_running (marks ++ Started id group element property at start ∷ []) other ≡ is_group_running marks other
+start-elsewhere marks id group element property at start other differ =
+    let mark = Started id group element property at start in
+    both-ways (is_group_running (marks ++ mark ∷ []) other) (is_group_running marks other)
+    (λ is.
+    let by = group-runs-by (marks ++ mark ∷ []) other is in
+    elim (among-append marks mark by.0 by.1) [
+      | inl before ↦ group-runs marks other by.0 before by.2 (sym (alive-same marks id group element property at start (model_of by.0)) ∙ by.3)
+      | inr last ↦ absurd (differ (eqb-true other group (sym (ap (starts_in other) last) ∙ by.2)))
+    ])
+    (λ is.
+    let by = group-runs-by marks other is in
+    group-runs (marks ++ mark ∷ []) other by.0 (among-more marks by.0 mark by.1) by.2 (alive-same marks id group element property at start (model_of by.0) ∙ by.3))
+
+
+
+
+
+-- what another group blocks stays
+pub blocks-elsewhere : (marks : List Mark) (id group element : ℕ) (property : Property) (at : ℕ) (start : ℤ) (other e : ℕ) (p : Property) → other ≢ group
+    → blocks (marks ++ Started id group element property at start ∷ []) other e p ≡ blocks marks other e p
+blocks-elsewhere marks id group element property at start other e p differ =
+    let mark = Started id group element property at start in
+    let on = λ (k : Mark). starts_in other k && starts_on e p k in
+    ap (λ b. b && list_any on (marks ++ mark ∷ [])) (start-elsewhere marks id group element property at start other differ)
+    ∙ ap (λ b. is_group_running marks other && b)
+    (one_any on marks mark ∙ ap (λ b. list_any on marks || (b && (e == element && same_property p property))) (apart-test other group differ) ∙ or_none (list_any on marks))
+
+property-is : (a b : Property) → is_property a b ≡ true → a ≡ b
+property-is Opacity Opacity is = refl
+property-is Opacity Transform is = cc
+property-is Transform Opacity is = cc
+property-is Transform Transform is = refl
+
+property-flip : (a b : Property) → is_property a b ≡ same_property b a
+property-flip Opacity Opacity = refl
+property-flip Opacity Transform = refl
+property-flip Transform Opacity = refl
+property-flip Transform Transform = refl
+
+eq-flip : (a b : ℕ) → (a == b) ≡ (b == a)
+eq-flip a b = elim (eqb_tells a b) [ inl t ↦ t.0 ∙ sym (eq-eqb b a (sym t.1)) | inr f ↦ f.0 ∙ sym (apart-test b a (λ same. f.1 (sym same))) ]
+
+pub start-blocks : (table new : Anims) (marks : List Mark) (id group element : ℕ) (property : Property) (at : ℕ) (start : ℤ)
+    → BlocksStand table marks
+    → list_any (starts_in group) marks ≡ is_group_running marks group
+    → is_ended marks id ≡ false
+    → ((other : ℕ) → other ≢ group → blocks marks other element property ≡ false)
+    → IsSetBlocker element property (Some group) table new
+    → BlocksStand new (marks ++ Started id group element property at start ∷ [])
+start-blocks table new marks id group element property at start stand whole alive free set g e p =
+    let mark = Started id group element property at start in
+    let on = λ (k : Mark). starts_in g k && starts_on e p k in
+    ap (is_held_by g) (set.blocks e p)
+    ∙ elim (eqb_tells g group) [
+      | inr f ↦
+          other (element == e && is_property property p) refl f.0 f.1
+          ∙ sym (blocks-elsewhere marks id group element property at start g e p f.1)
+      | inl t ↦
+          let runs : is_group_running (marks ++ mark ∷ []) g ≡ true = ap (is_group_running (marks ++ mark ∷ [])) t.1 ∙ start-runs marks id group element property at start alive in
+          let test : (element == e && is_property property p) ≡ (e == element && same_property p property) =
+          ap (λ b. b && is_property property p) (eq-flip element e) ∙ ap (λ b. e == element && b) (property-flip property p) in
+          own (element == e && is_property property p) t.0 (λ is. stand-own t.1 (implied t.1 (stand g e p)))
+          ∙ ap (λ b. list_any on marks || b) (test ∙ sym (ap (λ b. b && (e == element && same_property p property)) t.0))
+          ∙ sym (one_any on marks mark)
+          ∙ sym (ap (λ b. b && list_any on (marks ++ mark ∷ [])) runs)
+    ]
+  where
+    other : (c : Bool) → (element == e && is_property property p) ≡ c → (g == group) ≡ false → g ≢ group
+        → is_held_by g (if c then Some group else blocker_of table e p) ≡ blocks marks g e p
+    other true test apart differ =
+        let here : element ≡ e = eqb-true element e (and-first (element == e) (is_property property p) test) in
+        let kind : property ≡ p = property-is property p (and-second (element == e) (is_property property p) test) in
+        apart ∙ sym (free g differ) ∙ ap (λ (x : ℕ). blocks marks g x property) here ∙ ap (blocks marks g e) kind
+    other false test apart differ = stand g e p
+    implied : g ≡ group → is_held_by g (blocker_of table e p) ≡ blocks marks g e p
+        → is_held_by g (blocker_of table e p) ≡ list_any (λ (k : Mark). starts_in g k && starts_on e p k) marks
+    implied same is =
+        is
+        ∙ and-implied (is_group_running marks g) (list_any (λ (k : Mark). starts_in g k && starts_on e p k) marks)
+        (λ any.
+        let found = any-found (λ (k : Mark). starts_in g k && starts_on e p k) marks any in
+        let begun : list_any (starts_in g) marks ≡ true = any-true (starts_in g) marks found.0 found.1 (and-first (starts_in g found.0) (starts_on e p found.0) found.2) in
+        ap (is_group_running marks) same ∙ sym whole ∙ ap (λ (x : ℕ). list_any (starts_in x) marks) (sym same) ∙ begun)
+    stand-own : g ≡ group
+        → is_held_by g (blocker_of table e p) ≡ list_any (λ (k : Mark). starts_in g k && starts_on e p k) marks
+        → is_held_by g (blocker_of table e p) ≡ list_any (λ (k : Mark). starts_in g k && starts_on e p k) marks
+    stand-own same is = is
+    own : (c : Bool) → (g == group) ≡ true
+        → (c ≡ false → is_held_by g (blocker_of table e p) ≡ list_any (λ (k : Mark). starts_in g k && starts_on e p k) marks)
+        → is_held_by g (if c then Some group else blocker_of table e p) ≡ (list_any (λ (k : Mark). starts_in g k && starts_on e p k) marks || c)
+    own true is held = is ∙ sym (or-last (list_any (λ (k : Mark). starts_in g k && starts_on e p k) marks))
+      where
+        or-last : (b : Bool) → (b || true) ≡ true
+        or-last true = refl
+        or-last false = refl
+    own false is held = held refl ∙ sym (or_none (list_any (λ (k : Mark). starts_in g k && starts_on e p k) marks))
