@@ -207,3 +207,217 @@ start-blocks table new marks id group element property at start stand whole aliv
         or-last true = refl
         or-last false = refl
     own false is held = held refl ∙ sym (or_none (list_any (λ (k : Mark). starts_in g k && starts_on e p k) marks))
+
+-- ---- one more end
+
+-- the mark is no start
+abbrev IsEnd : Mark → Type 0
+IsEnd mark = (group : ℕ) → starts_in group mark ≡ false
+
+ends-of : (mark : Mark) (model : Spec) (id : ℕ) → IsOf mark model → IsEnd mark → ends id mark ≡ (id == model.id)
+ends-of (Started own group element property at start) model id of end = let e = eq-eqb group group refl in let f = end group in cc
+ends-of (Finished own at) model id of end = ap (λ (x : ℕ). id == x) of
+ends-of (Aborted own commit) model id of end = ap (λ (x : ℕ). id == x) of
+
+-- another group runs where it did
+pub end-elsewhere : (models : List Spec) (marks : List Mark) (mark : Mark) (model : Spec) (other : ℕ)
+    → MarksFit models marks → IsAmong model models → IsOf mark model → ((group : ℕ) → starts_in group mark ≡ false) → other ≢ model.group
+    → is_group_running (marks ++ mark ∷ []) other ≡ is_group_running marks other
+end-elsewhere models marks mark model other fit there of end differ =
+    both-ways (is_group_running (marks ++ mark ∷ []) other) (is_group_running marks other)
+    (λ is.
+    let by = group-runs-by (marks ++ mark ∷ []) other is in
+    elim (among-append marks mark by.0 by.1) [
+      | inl before ↦ group-runs marks other by.0 before by.2 (ended-before marks mark (model_of by.0) by.3)
+      | inr last ↦ let yes_start : starts_in other mark ≡ true = sym (ap (starts_in other) last) ∙ by.2 in let none = end other in absurd (apart yes_start none)
+    ])
+    (λ is.
+    let by = group-runs-by marks other is in
+    let own : (model_of by.0 == model.id) ≡ false =
+    apart-test (model_of by.0) model.id (λ same. differ (agree-group by.0 model other (fit.agree by.0 model by.1 there) by.2 same)) in
+    group-runs (marks ++ mark ∷ []) other by.0 (among-more marks by.0 mark by.1) by.2
+    (ended-more marks mark (model_of by.0)
+    ∙ ap (λ b. b || ends (model_of by.0) mark) by.3
+    ∙ ends-of mark model (model_of by.0) of end
+    ∙ own))
+  where
+    apart : {b : Bool} → b ≡ true → b ≡ false → ⊥
+    apart {b} one two = cc
+
+end-on : (marks : List Mark) (mark : Mark) (g e : ℕ) (p : Property) → ((group : ℕ) → starts_in group mark ≡ false)
+    → list_any (λ (k : Mark). starts_in g k && starts_on e p k) (marks ++ mark ∷ []) ≡ list_any (λ (k : Mark). starts_in g k && starts_on e p k) marks
+end-on marks mark g e p end =
+    let on = λ (k : Mark). starts_in g k && starts_on e p k in
+    one_any on marks mark ∙ ap (λ b. list_any on marks || (b && starts_on e p mark)) (end g) ∙ or_none (list_any on marks)
+
+-- where the model's group still runs, all is blocked that was
+pub end-keeps : (models : List Spec) (table : Anims) (marks : List Mark) (mark : Mark) (model : Spec)
+    → MarksFit models marks → IsAmong model models → IsOf mark model → ((group : ℕ) → starts_in group mark ≡ false)
+    → is_group_running (marks ++ mark ∷ []) model.group ≡ true
+    → BlocksStand table marks
+    → BlocksStand table (marks ++ mark ∷ [])
+end-keeps models table marks mark model fit there of end runs stand g e p =
+    let on = λ (k : Mark). starts_in g k && starts_on e p k in
+    let same : is_group_running (marks ++ mark ∷ []) g ≡ is_group_running marks g =
+    elim (eqb_tells g model.group) [
+      | inl t ↦
+          ap (is_group_running (marks ++ mark ∷ [])) t.1 ∙ runs
+          ∙ sym (before (group-runs-by (marks ++ mark ∷ []) model.group runs)) ∙ ap (is_group_running marks) (sym t.1)
+      | inr f ↦ end-elsewhere models marks mark model g fit there of end f.1
+    ] in
+    stand g e p
+    ∙ ap (λ b. b && list_any on marks) (sym same)
+    ∙ ap (λ b. is_group_running (marks ++ mark ∷ []) g && b) (sym (end-on marks mark g e p end))
+  where
+    apart : {b : Bool} → b ≡ true → b ≡ false → ⊥
+    apart {b} one two = cc
+    before : ((k : Mark) × IsAmong k (marks ++ mark ∷ []) × (starts_in model.group k ≡ true) × (is_ended (marks ++ mark ∷ []) (model_of k) ≡ false))
+        → is_group_running marks model.group ≡ true
+    before by =
+        elim (among-append marks mark by.0 by.1) [
+          | inl first ↦ group-runs marks model.group by.0 first by.2 (ended-before marks mark (model_of by.0) by.3)
+          | inr last ↦ absurd (apart (sym (ap (starts_in model.group) last) ∙ by.2) (end model.group))
+        ]
+
+freed-other : (group other : ℕ) (here : Bool) (blocker : Option ℕ) → other ≢ group
+    → is_held_by other (if here && is_held_by group blocker then None else blocker) ≡ is_held_by other blocker
+freed-other group other true None differ = refl
+freed-other group other true (Some holder) differ = test (group == holder) refl
+  where
+    test : (b : Bool) → (group == holder) ≡ b → is_held_by other (if b then None else Some holder) ≡ (other == holder)
+    test true is = sym (apart-test other holder (λ same. differ (same ∙ sym (eqb-true group holder is))))
+    test false is = refl
+freed-other group other false None differ = refl
+freed-other group other false (Some holder) differ = refl
+
+freed-own : (group : ℕ) (blocker : Option ℕ) → is_held_by group (if true && is_held_by group blocker then None else blocker) ≡ false
+freed-own group None = refl
+freed-own group (Some holder) = test (group == holder) refl
+  where
+    test : (b : Bool) → (group == holder) ≡ b → is_held_by group (if b then None else Some holder) ≡ false
+    test true is = refl
+    test false is = is
+
+freed-away : (group : ℕ) (blocker : Option ℕ) → is_held_by group blocker ≡ false → is_held_by group (if false && is_held_by group blocker then None else blocker) ≡ false
+freed-away group None is = is
+freed-away group (Some holder) is = is
+
+-- where the model was the last of its group to run, the group blocks nothing any more
+pub end-frees : (models : List Spec) (table new : Anims) (marks : List Mark) (mark : Mark) (model : Spec)
+    → MarksFit models marks → IsAmong model models → IsOf mark model → ((group : ℕ) → starts_in group mark ≡ false)
+    → is_group_running (marks ++ mark ∷ []) model.group ≡ false
+    → IsReleased model.element model.group table new
+    → BlocksStand table marks
+    → BlocksStand new (marks ++ mark ∷ [])
+end-frees models table new marks mark model fit there of end still released stand g e p =
+    let on = λ (k : Mark). starts_in g k && starts_on e p k in
+    ap (is_held_by g) (released e p)
+    ∙ elim (eqb_tells g model.group) [
+      | inl t ↦
+          ap (λ (x : ℕ). is_held_by x (if model.element == e && is_held_by model.group (blocker_of table e p) then None else blocker_of table e p)) t.1
+          ∙ own (model.element == e) refl
+          ∙ sym (ap (λ b. b && list_any on (marks ++ mark ∷ [])) (ap (is_group_running (marks ++ mark ∷ [])) t.1 ∙ still))
+      | inr f ↦
+          freed-other model.group g (model.element == e) (blocker_of table e p) f.1
+          ∙ stand g e p
+          ∙ ap (λ b. b && list_any on marks) (sym (end-elsewhere models marks mark model g fit there of end f.1))
+          ∙ ap (λ b. is_group_running (marks ++ mark ∷ []) g && b) (sym (end-on marks mark g e p end))
+    ]
+  where
+    elsewhere : (b : Bool) → blocks marks model.group e p ≡ b → (model.element == e) ≡ false → b ≡ false
+    elsewhere true is apart =
+        let any = and-second (is_group_running marks model.group) (list_any (λ (k : Mark). starts_in model.group k && starts_on e p k) marks) is in
+        let found = any-found (λ (k : Mark). starts_in model.group k && starts_on e p k) marks any in
+        let here : e ≡ model.element =
+        agree-element found.0 model e p (fit.agree found.0 model found.1 there)
+        (and-first (starts_in model.group found.0) (starts_on e p found.0) found.2)
+        (and-second (starts_in model.group found.0) (starts_on e p found.0) found.2) in
+        sym (eq-eqb model.element e (sym here)) ∙ apart
+    elsewhere false is apart = refl
+    own : (b : Bool) → (model.element == e) ≡ b
+        → is_held_by model.group (if b && is_held_by model.group (blocker_of table e p) then None else blocker_of table e p) ≡ false
+    own true is = freed-own model.group (blocker_of table e p)
+    own false is =
+        freed-away model.group (blocker_of table e p)
+        (stand model.group e p ∙ elsewhere (blocks marks model.group e p) refl is)
+
+-- ---- what is blocked for a group
+
+started-in : (mark : Mark) (group : ℕ) → starts_in group mark ≡ true → started_group mark ≡ Some group
+started-in (Started id own element property at start) group is = ap Some (sym (eqb-true group own is))
+started-in (Finished id at) group is = cc
+started-in (Aborted id commit) group is = cc
+
+given-among : (marks : List Mark) (mark : Mark) (group : ℕ) → IsAmong mark marks → started_group mark ≡ Some group → IsAmong group (filter_map started_group marks)
+given-among [] mark group among is = absurd among
+given-among (m ∷ marks) mark group among is =
+    elim among [
+      | inl same ↦ first (started_group m) (ap started_group (sym same) ∙ is)
+      | inr rest ↦ later (started_group m) (given-among marks mark group rest is)
+    ]
+  where
+    first : (o : Option ℕ) → o ≡ Some group → IsAmong group (cons_option o (filter_map started_group marks))
+    first None is = cc
+    first (Some x) is = let e : x ≡ group = cc in inl (sym e)
+    later : (o : Option ℕ) → IsAmong group (filter_map started_group marks) → IsAmong group (cons_option o (filter_map started_group marks))
+    later None there = there
+    later (Some x) there = inr there
+
+-- by the table of blocks
+pub blocked-for : (table : Anims) (marks : List Mark) (group element : ℕ) (property : Property) → BlocksStand table marks
+    → is_other group (blocker_of table element property) ≡ is_blocked_for marks group element property
+blocked-for table marks group element property stand =
+    let test = λ (other : ℕ). not (group == other) && blocks marks other element property in
+    both-ways (is_other group (blocker_of table element property)) (is_blocked_for marks group element property)
+    (held (blocker_of table element property) refl)
+    (λ is.
+    let found = any-found test (filter_map started_group marks) is in
+    other-held (blocker_of table element property) found.0 (and-first (not (group == found.0)) (blocks marks found.0 element property) found.2)
+    (stand found.0 element property ∙ and-second (not (group == found.0)) (blocks marks found.0 element property) found.2))
+  where
+    other-held : (o : Option ℕ) (h : ℕ) → not (group == h) ≡ true → is_held_by h o ≡ true → is_other group o ≡ true
+    other-held None h differ is = cc
+    other-held (Some x) h differ is = ap (λ (y : ℕ). not (group == y)) (sym (eqb-true h x is)) ∙ differ
+    held : (o : Option ℕ) → blocker_of table element property ≡ o → is_other group o ≡ true → is_blocked_for marks group element property ≡ true
+    held None is other = cc
+    held (Some h) is other =
+        let blocked : blocks marks h element property ≡ true = sym (stand h element property) ∙ ap (is_held_by h) is ∙ eq-eqb h h refl in
+        let any = and-second (is_group_running marks h) (list_any (λ (k : Mark). starts_in h k && starts_on element property k) marks) blocked in
+        let found = any-found (λ (k : Mark). starts_in h k && starts_on element property k) marks any in
+        any-true (λ (other : ℕ). not (group == other) && blocks marks other element property) (filter_map started_group marks) h
+        (given-among marks found.0 h found.1 (started-in found.0 h (and-first (starts_in h found.0) (starts_on element property found.0) found.2)))
+        (and-both (not (group == h)) (blocks marks h element property) other blocked)
+
+-- no other group blocks what is not blocked for this one
+pub none-blocks : (marks : List Mark) (group element : ℕ) (property : Property) (other : ℕ) → is_blocked_for marks group element property ≡ false
+    → other ≢ group → blocks marks other element property ≡ false
+none-blocks marks group element property other free differ = either (blocks marks other element property) refl
+  where
+    either : (b : Bool) → blocks marks other element property ≡ b → b ≡ false
+    either false is = refl
+    either true is =
+        let any = and-second (is_group_running marks other) (list_any (λ (k : Mark). starts_in other k && starts_on element property k) marks) is in
+        let found = any-found (λ (k : Mark). starts_in other k && starts_on element property k) marks any in
+        let blocked : is_blocked_for marks group element property ≡ true =
+        any-true (λ (h : ℕ). not (group == h) && blocks marks h element property) (filter_map started_group marks) other
+        (given-among marks found.0 other found.1 (started-in found.0 other (and-first (starts_in other found.0) (starts_on element property found.0) found.2)))
+        (and-both (not (group == other)) (blocks marks other element property) (from-false (group == other) (apart-test group other (λ same. differ (sym same)))) is) in
+        sym blocked ∙ free
+
+-- the table holds nothing against the group
+pub free-or-own : (table : Anims) (marks : List Mark) (group element : ℕ) (property : Property) → BlocksStand table marks
+    → ((other : ℕ) → other ≢ group → blocks marks other element property ≡ false)
+    → (blocker_of table element property ≡ None) ⊎ (blocker_of table element property ≡ Some group)
+free-or-own table marks group element property stand free = either (blocker_of table element property) refl
+  where
+    either : (o : Option ℕ) → blocker_of table element property ≡ o
+        → (blocker_of table element property ≡ None) ⊎ (blocker_of table element property ≡ Some group)
+    either None is = inl is
+    either (Some h) is =
+        elim (eqb_tells h group) [
+          | inl t ↦ inr (is ∙ ap Some t.1)
+          | inr f ↦
+              let held : blocks marks h element property ≡ true = sym (stand h element property) ∙ ap (is_held_by h) is ∙ eq-eqb h h refl in
+              let not_held = free h f.1 in
+              absurd cc
+        ]
