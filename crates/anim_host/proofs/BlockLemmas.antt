@@ -150,7 +150,7 @@ property-flip Opacity Transform = refl
 property-flip Transform Opacity = refl
 property-flip Transform Transform = refl
 
-eq-flip : (a b : ℕ) → (a == b) ≡ (b == a)
+pub eq-flip : (a b : ℕ) → (a == b) ≡ (b == a)
 eq-flip a b = elim (eqb_tells a b) [ inl t ↦ t.0 ∙ sym (eq-eqb b a (sym t.1)) | inr f ↦ f.0 ∙ sym (apart-test b a (λ same. f.1 (sym same))) ]
 
 pub start-blocks : (table new : Anims) (marks : List Mark) (id group element : ℕ) (property : Property) (at : ℕ) (start : ℤ)

@@ -12,3 +12,4 @@ pub mod ShapeLemmas
 pub mod GrowLemmas
 pub mod FitLemmas
 pub mod BlockLemmas
+pub mod ElementLemmas

@@ -5,3 +5,4 @@ pub mod States
 pub mod Standing
 pub mod Shapes
 pub mod Fits
+pub mod Elements

@@ -6,6 +6,7 @@
 #![tactic(auto)]
 
 mod aborts;
+mod elements;
 mod finish;
 mod host;
 pub mod laws;
