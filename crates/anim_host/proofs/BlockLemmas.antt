@@ -1,5 +1,5 @@
 -- Which group blocks what: what a start and an end change.
-use Rattle.std.proofs.Common.{◌≡◌, ◌≢◌, ◌⊎◌, ℕ, Bool, true, false, not, ◌||◌, List, [], ◌∷◌, ◌++◌, Option, Some, None, refl, sym, ap, subst, ◌∙◌, nat_eq, inl, inr}
+use Rattle.std.proofs.Common.{◌≡◌, ◌≢◌, ◌⊎◌, ℕ, Bool, true, false, not, ◌||◌, List, [], ◌∷◌, ◌++◌, Option, Some, None, refl, sym, ap, subst, ◌∙◌, nat_eq, cond, filter, inl, inr}
 use Rattle.std.specs.Prelude.{◌==◌, ◌&&◌, ℤ, filter_map, if◌then◌else◌}
 use Rattle.std.specs.List.{list_any, cons_option}
 use Rattle.std.proofs.lemmas.Bool.{eq-eqb, eqb-true}
@@ -12,7 +12,7 @@ use Rattle.keyframe_model.specs.Models.{Spec, same_property}
 use Rattle.tree_commit.specs.declared.runs.mark.Mark.{Mark}
 use Rattle.tree_commit.specs.declared.runs.mark.Mark.TheVariants.{Started, Finished, Aborted}
 use Rattle.tree_commit.specs.Follows.{IsAmong}
-use Rattle.tree_commit.specs.Marks.{blocks, ends, is_blocked_for, is_ended, is_group_running, model_of, started_group, starts_in, starts_on}
+use Rattle.tree_commit.specs.Marks.{blocks, ends, is_blocked_for, is_ended, is_group_running, is_running, is_started, model_of, started_group, starts, starts_in, starts_on}
 use Rattle.anim_host.specs.Fits.{AgreesWith, BlocksStand, IsOf, IsReleased, IsThereIfRunning, MarksFit, is_held_by}
 use Rattle.anim_host.specs.States.{is_among}
 use Rattle.anim_host.proofs.FitLemmas.{among-append, any-found, any-true, both-ways, ended-before}
@@ -20,27 +20,27 @@ use Rattle.anim_host.proofs.StateLemmas.{ended-more, one_any, or_none}
 
 -- ---- tests
 
-and-first : (a b : Bool) → (a && b) ≡ true → a ≡ true
+pub and-first : (a b : Bool) → (a && b) ≡ true → a ≡ true
 and-first true b is = refl
 and-first false b is = is
 
-and-second : (a b : Bool) → (a && b) ≡ true → b ≡ true
+pub and-second : (a b : Bool) → (a && b) ≡ true → b ≡ true
 and-second true b is = is
 and-second false b is = cc
 
-and-both : (a b : Bool) → a ≡ true → b ≡ true → (a && b) ≡ true
+pub and-both : (a b : Bool) → a ≡ true → b ≡ true → (a && b) ≡ true
 and-both true b one two = two
 and-both false b one two = one
 
-not-true : (b : Bool) → not b ≡ true → b ≡ false
+pub not-true : (b : Bool) → not b ≡ true → b ≡ false
 not-true true is = cc
 not-true false is = refl
 
-from-false : (b : Bool) → b ≡ false → not b ≡ true
+pub from-false : (b : Bool) → b ≡ false → not b ≡ true
 from-false true is = cc
 from-false false is = refl
 
-apart-test : (a b : ℕ) → a ≢ b → (a == b) ≡ false
+pub apart-test : (a b : ℕ) → a ≢ b → (a == b) ≡ false
 apart-test a b differ = elim (eqb_tells a b) [ inl t ↦ absurd (differ t.1) | inr f ↦ f.0 ]
 
 -- what implies another test is the two together
@@ -89,7 +89,7 @@ there-running models marks (Aborted id commit) group there is alive = cc
 
 -- ---- one more start
 
-alive-same : (marks : List Mark) (id group element : ℕ) (property : Property) (at : ℕ) (start : ℤ) (other : ℕ)
+pub alive-same : (marks : List Mark) (id group element : ℕ) (property : Property) (at : ℕ) (start : ℤ) (other : ℕ)
     → is_ended (marks ++ Started id group element property at start ∷ []) other ≡ is_ended marks other
 alive-same marks id group element property at start other = ended-more marks (Started id group element property at start) other ∙ or_none (is_ended marks other)
 
@@ -104,7 +104,7 @@ start-runs marks id group element property at start alive =
     last [] m = inl refl
     last (x ∷ ms) m = inr (last ms m)
 
-among-more : (marks : List Mark) (mark last : Mark) → IsAmong mark marks → IsAmong mark (marks ++ last ∷ [])
+pub among-more : (marks : List Mark) (mark last : Mark) → IsAmong mark marks → IsAmong mark (marks ++ last ∷ [])
 among-more [] mark last among = absurd among
 among-more (m ∷ marks) mark last among = elim among [ inl same ↦ inl same | inr rest ↦ inr (among-more marks mark last rest) ]
 
@@ -214,7 +214,7 @@ start-blocks table new marks id group element property at start stand whole aliv
 abbrev IsEnd : Mark → Type 0
 IsEnd mark = (group : ℕ) → starts_in group mark ≡ false
 
-ends-of : (mark : Mark) (model : Spec) (id : ℕ) → IsOf mark model → IsEnd mark → ends id mark ≡ (id == model.id)
+pub ends-of : (mark : Mark) (model : Spec) (id : ℕ) → IsOf mark model → ((group : ℕ) → starts_in group mark ≡ false) → ends id mark ≡ (id == model.id)
 ends-of (Started own group element property at start) model id of end = let e = eq-eqb group group refl in let f = end group in cc
 ends-of (Finished own at) model id of end = ap (λ (x : ℕ). id == x) of
 ends-of (Aborted own commit) model id of end = ap (λ (x : ℕ). id == x) of
@@ -421,3 +421,112 @@ free-or-own table marks group element property stand free = either (blocker_of t
               let not_held = free h f.1 in
               absurd cc
         ]
+
+-- ---- what runs of a group besides one model
+
+pub clash : {A : Type 0} (b : Bool) → b ≡ true → b ≡ false → A
+clash true one two = cc
+clash false one two = cc
+
+filter-here : {A : Type 0} (p : A → Bool) (x y : A) (ys : List A) (b : Bool) → p y ≡ b → p x ≡ true → x ≡ y
+    → IsAmong x (cond b (y ∷ filter p ys) (filter p ys))
+filter-here p x y ys true test is same = inl same
+filter-here p x y ys false test is same = clash (p y) (sym (ap p same) ∙ is) test
+
+filter-later : {A : Type 0} (p : A → Bool) (x y : A) (ys : List A) (b : Bool) → IsAmong x (filter p ys)
+    → IsAmong x (cond b (y ∷ filter p ys) (filter p ys))
+filter-later p x y ys true there = inr there
+filter-later p x y ys false there = there
+
+pub among-filter : {A : Type 0} (p : A → Bool) (xs : List A) (x : A) → IsAmong x xs → p x ≡ true → IsAmong x (filter p xs)
+among-filter p [] x among is = absurd among
+among-filter p (y ∷ ys) x among is =
+    elim among [
+      | inl same ↦ filter-here p x y ys (p y) refl is same
+      | inr later ↦ filter-later p x y ys (p y) (among-filter p ys x later is)
+    ]
+
+filter-found : {A : Type 0} (p : A → Bool) (x y : A) (ys : List A) (b : Bool) → p y ≡ b
+    → (IsAmong x (filter p ys) → IsAmong x ys × (p x ≡ true))
+    → IsAmong x (cond b (y ∷ filter p ys) (filter p ys)) → IsAmong x (y ∷ ys) × (p x ≡ true)
+filter-found p x y ys true test rest among =
+    elim among [ inl same ↦ (inl same, ap p same ∙ test) | inr later ↦ (inr (rest later).0, (rest later).1) ]
+filter-found p x y ys false test rest among = (inr (rest among).0, (rest among).1)
+
+pub filter-among : {A : Type 0} (p : A → Bool) (xs : List A) (x : A) → IsAmong x (filter p xs) → IsAmong x xs × (p x ≡ true)
+filter-among p [] x among = absurd among
+filter-among p (y ∷ ys) x among = filter-found p x y ys (p y) refl (filter-among p ys x) among
+
+-- a model of this id
+pub among-model : (models : List Spec) (id : ℕ) → is_among models id ≡ true → (model : Spec) × IsAmong model models × (model.id ≡ id)
+among-model models id is =
+    let found = any-found (λ (m : Spec). id == m.id) models is in
+    (found.0, found.1, sym (eqb-true id found.0.id found.2))
+
+starts-of : (mark : Mark) (group id : ℕ) → starts_in group mark ≡ true → model_of mark ≡ id → starts id mark ≡ true
+starts-of (Started own g element property at start) group id is same = eq-eqb id own (sym same)
+starts-of (Finished own at) group id is same = cc
+starts-of (Aborted own commit) group id is same = cc
+
+starts-group : (mark : Mark) (model : Spec) → AgreesWith mark model → starts model.id mark ≡ true
+    → (starts_in model.group mark ≡ true) × (model_of mark ≡ model.id)
+starts-group (Started own g element property at start) model agrees is =
+    let same : own ≡ model.id = sym (eqb-true model.id own is) in
+    (eq-eqb model.group g (sym (agrees.0 same)), same)
+starts-group (Finished own at) model agrees is = cc
+starts-group (Aborted own commit) model agrees is = cc
+
+-- a model that started is of a group that did
+pub started-group-of : (models : List Spec) (marks : List Mark) (model : Spec) → MarksFit models marks → IsAmong model models
+    → is_started marks model.id ≡ true → list_any (starts_in model.group) marks ≡ true
+started-group-of models marks model fit there is =
+    let found = any-found (starts model.id) marks is in
+    any-true (starts_in model.group) marks found.0 found.1 (starts-group found.0 model (fit.agree found.0 model found.1 there) found.2).0
+
+pub runs-after : (models : List Spec) (marks : List Mark) (mark : Mark) (model : Spec)
+    → MarksFit models marks → IsAmong model models → IsOf mark model → ((group : ℕ) → starts_in group mark ≡ false)
+    → is_group_running (marks ++ mark ∷ []) model.group
+    ≡ list_any (λ (k : Spec). not (k.id == model.id) && is_running marks k.id) (filter (λ (k : Spec). model.group == k.group) models)
+runs-after models marks mark model fit there of end =
+    let test = λ (k : Spec). not (k.id == model.id) && is_running marks k.id in
+    let own = λ (k : Spec). model.group == k.group in
+    both-ways (is_group_running (marks ++ mark ∷ []) model.group) (list_any test (filter own models))
+    (λ is.
+    let by = group-runs-by (marks ++ mark ∷ []) model.group is in
+    elim (among-append marks mark by.0 by.1) [
+      | inr last ↦ clash (starts_in model.group mark) (sym (ap (starts_in model.group) last) ∙ by.2) (end model.group)
+      | inl before ↦
+          let alive : is_ended marks (model_of by.0) ≡ false = ended-before marks mark (model_of by.0) by.3 in
+          let found = among-model models (model_of by.0) (there-running models marks by.0 model.group (fit.running by.0 before) by.2 alive) in
+          let group : model.group ≡ found.0.group =
+          agree-group by.0 found.0 model.group (fit.agree by.0 found.0 before found.1) by.2 (sym found.2) in
+          let began : is_started marks found.0.id ≡ true = any-true (starts found.0.id) marks by.0 before (starts-of by.0 model.group found.0.id by.2 (sym found.2)) in
+          let runs : is_running marks found.0.id ≡ true =
+          and-both (is_started marks found.0.id) (not (is_ended marks found.0.id)) began (from-false (is_ended marks found.0.id) (ap (is_ended marks) found.2 ∙ alive)) in
+          let differ : (found.0.id == model.id) ≡ false =
+          ap (λ (x : ℕ). x == model.id) found.2
+          ∙ sym (ends-of mark model (model_of by.0) of end)
+          ∙ or-second-false (is_ended marks (model_of by.0)) (ends (model_of by.0) mark) (sym (ended-more marks mark (model_of by.0)) ∙ by.3) in
+          any-true test (filter own models) found.0 (among-filter own models found.0 found.1 (eq-eqb model.group found.0.group group))
+          (and-both (not (found.0.id == model.id)) (is_running marks found.0.id) (from-false (found.0.id == model.id) differ) runs)
+    ])
+    (λ is.
+    let found = any-found test (filter own models) is in
+    let mate = filter-among own models found.0 found.1 in
+    let group : model.group ≡ found.0.group = eqb-true model.group found.0.group mate.1 in
+    let runs = and-second (not (found.0.id == model.id)) (is_running marks found.0.id) found.2 in
+    let differ = not-true (found.0.id == model.id) (and-first (not (found.0.id == model.id)) (is_running marks found.0.id) found.2) in
+    let by = any-found (starts found.0.id) marks (and-first (is_started marks found.0.id) (not (is_ended marks found.0.id)) runs) in
+    let its = starts-group by.0 found.0 (fit.agree by.0 found.0 by.1 mate.0) by.2 in
+    let alive : is_ended marks found.0.id ≡ false = not-true (is_ended marks found.0.id) (and-second (is_started marks found.0.id) (not (is_ended marks found.0.id)) runs) in
+    group-runs (marks ++ mark ∷ []) model.group by.0 (among-more marks by.0 mark by.1)
+    (ap (λ (g : ℕ). starts_in g by.0) group ∙ its.0)
+    (ended-more marks mark (model_of by.0)
+    ∙ ap (λ b. b || ends (model_of by.0) mark) (ap (is_ended marks) its.1 ∙ alive)
+    ∙ ends-of mark model (model_of by.0) of end
+    ∙ ap (λ (x : ℕ). x == model.id) its.1
+    ∙ differ))
+  where
+    or-second-false : (a b : Bool) → (a || b) ≡ false → b ≡ false
+    or-second-false true b is = cc
+    or-second-false false b is = is

@@ -5,9 +5,12 @@ use Rattle.std.proofs.lemmas.Option.{none-some, same_Some}
 use Rattle.std.proofs.lemmas.Bool.{eq-eqb}
 use Rattle.anim_names.specs.declared.lane.Tree.{Tree}
 use Rattle.anim_names.specs.declared.property.Property.{Property}
-use Rattle.element_anims.specs.Elements.{Anims, IsSetPresent, is_present, is_tree}
-use Rattle.tree_commit.specs.Trees.{Element}
-use Rattle.anim_host.specs.Elements.{AreSet, is_listed}
+use Rattle.anim_names.specs.declared.lane.Tree.TheVariants.{Active, Pending}
+use Rattle.element_anims.specs.Elements.{Anims, IsSetPresent, blocker_of, is_present, is_tree}
+use Rattle.tree_commit.specs.declared.runs.mark.Mark.{Mark}
+use Rattle.tree_commit.specs.Trees.{Committed, Element, has_element}
+use Rattle.anim_host.specs.Fits.{BlocksStand, is_held_by}
+use Rattle.anim_host.specs.Elements.{AreSet, PresenceStands, is_listed}
 use Rattle.anim_host.proofs.BlockLemmas.{eq-flip}
 use Rattle.anim_host.proofs.StateLemmas.{or_none}
 
@@ -57,3 +60,43 @@ set-next tree elements i element there old now new found set so_far = record {
       (sym (ap (λ (k : ℕ). is_listed (take k elements) e) (add-one i) ∙ listed-taken elements i element e found));
   blocks = λ e p. set.blocks e p ∙ so_far.blocks e p;
 }
+
+-- the same elements are in the same trees
+pub presence-same : (old new : Anims) (active : Committed) (pending : Option Committed)
+    → ((t : Tree) (e : ℕ) → is_present new t e ≡ is_present old t e)
+    → PresenceStands old active pending → PresenceStands new active pending
+presence-same old new active pending same stand = record {
+  of_active = λ e. same Active e ∙ stand.of_active e;
+  of_pending = λ e. same Pending e ∙ stand.of_pending e;
+}
+
+told : (listed : Bool) → (if listed then true else false) ≡ listed
+told true = refl
+told false = refl
+
+untold : (listed : Bool) → (if listed then false else listed) ≡ false
+untold true = refl
+untold false = refl
+
+-- the elements of a commit are announced
+pub presence-announced : (old new : Anims) (active commit : Committed)
+    → AreSet Pending commit.tree.elements true old new
+    → PresenceStands old active None → PresenceStands new active (Some commit)
+presence-announced old new active commit set stand = record {
+  of_active = λ e. set.presence Active e ∙ stand.of_active e;
+  of_pending = λ e.
+      set.presence Pending e
+      ∙ ap (λ (b : Bool). if has_element commit.tree e then true else b) (stand.of_pending e)
+      ∙ told (has_element commit.tree e);
+}
+
+pub swapped-active : (listed old : Bool) → old ≡ false → (if listed then true else old) ≡ listed
+swapped-active listed old is = ap (λ (b : Bool). if listed then true else b) is ∙ told listed
+
+pub swapped-pending : (listed old : Bool) → old ≡ listed → (if listed then false else old) ≡ false
+swapped-pending listed old is = ap (λ (b : Bool). if listed then false else b) is ∙ untold listed
+
+-- the same groups block the same
+pub blocks-same : (old new : Anims) (marks : List Mark) → ((e : ℕ) (p : Property) → blocker_of new e p ≡ blocker_of old e p)
+    → BlocksStand old marks → BlocksStand new marks
+blocks-same old new marks same stand = λ g e p. ap (is_held_by g) (same e p) ∙ stand g e p

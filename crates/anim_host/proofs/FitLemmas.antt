@@ -11,7 +11,7 @@ use Rattle.tree_commit.specs.declared.runs.mark.Mark.{Mark}
 use Rattle.tree_commit.specs.declared.runs.mark.Mark.TheVariants.{Started, Finished, Aborted}
 use Rattle.tree_commit.specs.Follows.{Follows, IsAmong, has_mark}
 use Rattle.tree_commit.specs.Marks.{ends, is_ended, is_started, model_of, starts, starts_in}
-use Rattle.tree_commit.specs.Trees.{TreeLists, has_group}
+use Rattle.tree_commit.specs.Trees.{Committed, TreeLists, has_group}
 use Rattle.anim_host.specs.Fits.{AgreesWith, AreSettled, IsOf, IsThereIfRunning, MarksFit}
 use Rattle.anim_host.specs.States.{is_among}
 use Rattle.anim_host.proofs.AmongLemmas.{among-there}
@@ -156,7 +156,7 @@ marked-more (m ∷ marks) mark id is = here (id == model_of m) is (marked-more m
     here true is rest = inl refl
     here false is rest = rest is
 
-started-in-more : (group : ℕ) (marks : List Mark) (mark : Mark) → list_any (starts_in group) (marks ++ mark ∷ []) ≡ true
+pub started-in-more : (group : ℕ) (marks : List Mark) (mark : Mark) → list_any (starts_in group) (marks ++ mark ∷ []) ≡ true
     → (list_any (starts_in group) marks ≡ true) ⊎ (starts_in group mark ≡ true)
 started-in-more group [] mark is = inr (first (starts_in group mark) is)
   where
@@ -193,3 +193,43 @@ follows-next active pending marks mark model follows there of = record {
   groups_agree = follows.groups_agree;
   timelines = follows.timelines;
 }
+
+-- ---- the pending commit takes over
+
+agrees-over : (active pending : TreeLists) (marks : List Mark) → Follows active pending marks → MarksFit active.models marks
+    → (mark : Mark) (model : Spec) → IsAmong mark marks → IsAmong model pending.models → AgreesWith mark model
+agrees-over active pending marks follows fit (Started id group element property at start) model among there = (
+  λ ids.
+  (fit.agree (Started id group element property at start) model among
+  (follows.marked model there
+  (any-true (λ (k : Mark). model.id == model_of k) marks (Started id group element property at start) among (eq-eqb model.id id (sym ids))))).0 ids,
+  λ groups.
+  (fit.agree (Started id group element property at start) model among
+  (follows.group_started model there
+  (any-true (starts_in model.group) marks (Started id group element property at start) among (eq-eqb model.group group (sym groups))))).1 groups,
+)
+agrees-over active pending marks follows fit (Finished id at) model among there = tt
+agrees-over active pending marks follows fit (Aborted id commit) model among there = tt
+
+pub fits-over : (active pending : TreeLists) (marks : List Mark) → Follows active pending marks → MarksFit active.models marks
+    → ((mark : Mark) → IsAmong mark marks → IsThereIfRunning pending.models marks mark)
+    → MarksFit pending.models marks
+fits-over active pending marks follows fit running = record {
+  agree = agrees-over active pending marks follows fit;
+  running = running;
+  mates = λ model mate there also groups. (follows.groups_agree model mate there also groups).element;
+}
+
+-- no marks go with no models
+pub fits-nothing : MarksFit [] []
+fits-nothing = record {
+  agree = λ mark model among. absurd among;
+  running = λ mark among. absurd among;
+  mates = λ model mate there. absurd there;
+}
+
+pub follows-more : (active : TreeLists) (pending : Option Committed) (marks : List Mark) (mark : Mark) (model : Spec)
+    → IfSome pending (λ commit. Follows active commit.tree marks) → IsAmong model active.models → IsOf mark model
+    → IfSome pending (λ commit. Follows active commit.tree (marks ++ mark ∷ []))
+follows-more active None marks mark model follows there of = tt
+follows-more active (Some commit) marks mark model follows there of = follows-next active commit.tree marks mark model follows there of

@@ -13,3 +13,4 @@ pub mod GrowLemmas
 pub mod FitLemmas
 pub mod BlockLemmas
 pub mod ElementLemmas
+pub mod SettleLemmas

@@ -231,7 +231,7 @@ below-later : (n m : ℕ) (places : List ℕ) → n ≤ m → AllByRecursion (λ
 below-later n m [] le all = tt
 below-later n m (p ∷ places) le all = let first = all.0 in (omega arith, below-later n m places le all.1)
 
-below-append : (n place : ℕ) (places : List ℕ) → place < n → AllByRecursion (λ place. place < n) places → AllByRecursion (λ place. place < n) (places ++ place ∷ [])
+pub below-append : (n place : ℕ) (places : List ℕ) → place < n → AllByRecursion (λ place. place < n) places → AllByRecursion (λ place. place < n) (places ++ place ∷ [])
 below-append n place [] lt all = (lt, tt)
 below-append n place (p ∷ places) lt all = (all.0, below-append n place places lt all.1)
 
@@ -249,7 +249,7 @@ below-from place shape (model ∷ models) all = λ group.
     (λ g. subst (AllByRecursion (λ p. p < place + 1)) (sym (places-with place g model.group shape)) (below-if (nat_eq g model.group) place (places_in shape g) (all g)))
     group)
 
-below-at : (n : ℕ) (places : List ℕ) (j place : ℕ) → AllByRecursion (λ p. p < n) places → slice_get places j ≡ Some place → place < n
+pub below-at : (n : ℕ) (places : List ℕ) (j place : ℕ) → AllByRecursion (λ p. p < n) places → slice_get places j ≡ Some place → place < n
 below-at n [] j place all found = absurd (none-some place found)
 below-at n (p ∷ places) zero place all found = subst (λ (k : ℕ). k < n) (same_Some p place found) all.0
 below-at n (p ∷ places) (suc j) place all found = below-at n places j place all.1 found

@@ -1,5 +1,5 @@
 -- How the marks go with the models of the active commit.
-use Rattle.std.specs.Prelude.{◌≡◌, ℕ, ◌==◌, ◌&&◌, if◌then◌else◌, Bool, true, false, List, Option, Some, None}
+use Rattle.std.specs.Prelude.{◌≡◌, ◌≢◌, ℕ, ◌==◌, ◌&&◌, if◌then◌else◌, Bool, true, false, List, Option, Some, None}
 use Rattle.std.specs.List.{list_any}
 use Rattle.anim_names.specs.declared.property.Property.{Property}
 use Rattle.element_anims.specs.Elements.{Anims, blocker_of}
@@ -8,6 +8,7 @@ use Rattle.tree_commit.specs.declared.runs.mark.Mark.{Mark}
 use Rattle.tree_commit.specs.declared.runs.mark.Mark.TheVariants.{Started, Finished, Aborted}
 use Rattle.tree_commit.specs.Follows.{IsAmong}
 use Rattle.tree_commit.specs.Marks.{blocks, is_ended, is_started, starts_in}
+use Rattle.tree_commit.specs.Trees.{TreeLists, has_element}
 use Rattle.anim_host.specs.States.{is_among}
 
 -- The mark is one about this model. A start names its group, its element and its property.
@@ -59,3 +60,11 @@ abbrev pub IsReleased : ℕ → ℕ → Anims → Anims → Type 0
 IsReleased element group old new =
     (e : ℕ) (p : Property)
     → blocker_of new e p ≡ (if element == e && is_held_by group (blocker_of old e p) then None else blocker_of old e p)
+
+-- The model may start with its group: it is of this group, has not ended, its element is there, and no other group blocks
+-- its property.
+pub record MayStartIn (group : ℕ) (tree : TreeLists) (marks : List Mark) (model : Spec) : Type 0 where
+  pub own : model.group ≡ group
+  pub alive : is_ended marks model.id ≡ false
+  pub present : has_element tree model.element ≡ true
+  pub free : (other : ℕ) → other ≢ group → blocks marks other model.element (property_of model) ≡ false

@@ -1,16 +1,17 @@
 //! What the table of elements is told as commits change, and as groups start and end.
 
-ghost use Rattle.std.specs.Prelude.{◌≡◌, ◌⊎◌, ◌≤◌, ◌==◌, ◌&&◌, ℕ, true, false, if◌then◌else◌, length, None, Some};
+ghost use Rattle.std.specs.Prelude.{◌≡◌, ◌⊎◌, ◌≤◌, ◌==◌, ◌&&◌, ℕ, true, false, if◌then◌else◌, length, None, Some, OnOk};
 ghost use Rattle.anim_host.specs.Elements.{AreSet};
 ghost use Rattle.anim_host.specs.Fits.{IsReleased, is_held_by};
 ghost use Rattle.anim_names.specs.declared.lane.Tree as lane;
 ghost use Rattle.anim_names.specs.declared.lane.Tree.TheVariants as tree;
 ghost use Rattle.anim_names.specs.declared.property.Property as kinds;
-ghost use Rattle.element_anims.specs.Elements.{IsSetBlocker, blocker_of, is_known, is_present, is_property};
+ghost use Rattle.element_anims.specs.Elements.{IsSetBlocker, SaysTheSame, blocker_of, is_known, is_present, is_property};
 ghost use Rattle.tree_commit.specs.Trees.{has_element};
 
 use anim_names::{ElementId, GroupId, Property, Tree};
 use element_anims::ElementAnims;
+use std::alloc::AllocError;
 use tree_commit::Commit;
 
 /// The elements of the commit are in the pending tree.
@@ -24,8 +25,8 @@ pub(crate) fn announce(table: &mut ElementAnims, commit: &Commit)
     }
 }
 
-/// The elements of the pending commit are in the active tree.
-pub(crate) fn promote(table: &mut ElementAnims, commit: &Commit)
+// The elements of the pending commit are in the active tree.
+fn promote(table: &mut ElementAnims, commit: &Commit)
     requires known { (e : ℕ) → has_element commit.now.tree e ≡ true → is_present table.old tree.Pending e ≡ true }
     ensures { AreSet tree.Active commit.now.tree.elements true table.old table.new }
 {
@@ -35,13 +36,37 @@ pub(crate) fn promote(table: &mut ElementAnims, commit: &Commit)
     }
 }
 
-/// The elements of the commit are in this tree no more.
-pub(crate) fn dismiss(table: &mut ElementAnims, commit: &Commit, tree: Tree)
+// The elements of the commit are in this tree no more.
+fn dismiss(table: &mut ElementAnims, commit: &Commit, tree: Tree)
     ensures { AreSet tree commit.now.tree.elements false table.old table.new }
 {
     for index in 0..commit.element_count() {
         let (element, _) = commit.element_at(index);
         table.set_present(tree, element, false);
+    }
+}
+
+/// The elements of the active commit are those of the pending one, and none is pending.
+pub(crate) fn swap(table: &mut ElementAnims, active: &Commit, pending: &Commit)
+    requires active { (e : ℕ) → is_present table.old tree.Active e ≡ has_element active.now.tree e }
+    requires pending { (e : ℕ) → is_present table.old tree.Pending e ≡ has_element pending.now.tree e }
+    ensures active { (e : ℕ) → is_present table.new tree.Active e ≡ has_element pending.now.tree e }
+    ensures pending { (e : ℕ) → is_present table.new tree.Pending e ≡ false }
+    ensures blocks { (e : ℕ) (p : kinds.Property) → blocker_of table.new e p ≡ blocker_of table.old e p }
+{
+    dismiss(table, active, Tree::Active);
+    promote(table, pending);
+    dismiss(table, pending, Tree::Pending);
+}
+
+/// Takes memory for the elements of the commit.
+pub(crate) fn reserve(table: &mut ElementAnims, commit: &Commit) -> Result<(), AllocError>
+    ensures room { OnOk result (length commit.now.tree.elements ≤ table.new.room) }
+    ensures same { SaysTheSame table.old table.new }
+{
+    match u32::try_from(commit.element_count()) {
+        Ok(count) => table.reserve(count),
+        Err(_) => Err(AllocError),
     }
 }
 

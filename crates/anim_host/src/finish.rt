@@ -12,40 +12,39 @@ ghost use Rattle.tree_commit.specs.Trees.{has_model};
 use crate::models::is_over;
 use crate::shape::Shape;
 use crate::standing::Standing;
-use anim_names::ModelId;
 use keyframe_model::ModelSpec;
 use std::alloc::{AllocError, Global};
 use tree_commit::Commit;
 
-/// The models that finish at the tick, in the order of the commit: those that run and of whose group each running model
-/// is done.
+/// The places of the models that finish at the tick, in the order of the commit: those that run and of whose group each
+/// running model is done.
 pub(crate) fn finishing(
     alloc: Global,
     standing: &Standing,
     active: &Commit,
     shape: &Shape,
     tick: u64,
-) -> Result<Vec<ModelId>, AllocError>
+) -> Result<Vec<usize>, AllocError>
     requires active { active.now ≡ standing.now.active }
     requires shape { shape.now ≡ shape_of active.now.tree.models }
     requires in_time { IsTime tick }
-    ensures { IfOk result (λ ids.
-        ids.items ≡ map (λ model. model.id) (finishing_models active.now.tree standing.now.list.marks tick)) }
+    ensures models { IfOk result (λ places.
+        at_places active.now.tree.models places.items ≡ finishing_models active.now.tree standing.now.list.marks tick) }
+    ensures within { IfOk result (λ places. AllByRecursion (λ place. place < length active.now.tree.models) places.items) }
 {
-    let mut ids = Vec::new(alloc);
+    let mut places = Vec::new(alloc);
     for index in 0..active.model_count() {
-        let model = active.model_at(index);
-        let is_finished = finishes(standing, active, shape, model, tick);
-        push_if(&mut ids, is_finished, model.id())?;
+        let is_finished = finishes(standing, active, shape, active.model_at(index), tick);
+        push_if(&mut places, is_finished, index)?;
     }
-    Ok(ids)
+    Ok(places)
 }
 
-fn push_if(ids: &mut Vec<ModelId>, test: bool, id: ModelId) -> Result<(), AllocError>
-    ensures { OnOk result (ids.new.items ≡ ids.old.items ++ (if test then id ∷ [] else [])) }
+fn push_if(places: &mut Vec<usize>, test: bool, place: usize) -> Result<(), AllocError>
+    ensures { OnOk result (places.new.items ≡ places.old.items ++ (if test then place ∷ [] else [])) }
 {
     if test {
-        ids.push(id)?;
+        places.push(place)?;
     }
     Ok(())
 }

@@ -98,7 +98,8 @@ impl AnimHost {
         requires pending { self.old.pending ≡ Some pending.now }
         ensures { self.new ≡ after_activation self.old pending.now }
     {
-        abort_lost(&mut self.standing, active, pending);
+        abort_lost(&mut self.standing, active, &self.shape, pending);
+        self.standing.vouch();
         self.standing.take_over(pending);
         if let Some(shape) = self.next.take() {
             self.shape = shape;

@@ -7,11 +7,11 @@
 
 mod aborts;
 mod elements;
+mod ends;
 mod finish;
 mod host;
 pub mod laws;
 mod mark_list;
-mod marks;
 mod models;
 mod row;
 mod rows;

@@ -1,16 +1,15 @@
 //! What is asked of one keyframe model, by a commit and the marks.
 
 ghost use Rattle.std.specs.Prelude.{◌≡◌, ◌≤◌, ◌-ℤ◌, unsigned_abs, IsTrue, IfSome};
-ghost use Rattle.anim_host.specs.MarkLists.{StartIsWithin};
 ghost use Rattle.anim_timeline.specs.declared.TheConstants.{LAST_TIME};
 ghost use Rattle.anim_timeline.specs.Timelines.{IsTime};
 ghost use Rattle.micro_time.specs.Timings.{is_done};
-ghost use Rattle.tree_commit.specs.Marks.{is_over, recorded_start, start_mark};
+ghost use Rattle.tree_commit.specs.Marks.{is_over, recorded_start};
 ghost use Rattle.tree_commit.specs.Tables.{has_timeline};
 ghost use Rattle.tree_commit.specs.Trees.{time_of};
 
 use keyframe_model::ModelSpec;
-use tree_commit::{Commit, Mark, Shown};
+use tree_commit::{Commit, Shown};
 
 /// Whether the model is done at the tick, by the start that was recorded for it.
 pub(crate) fn is_over(active: &Commit, model: &ModelSpec, tick: u64, shown: Option<Shown>) -> bool
@@ -34,21 +33,15 @@ fn is_done_since(model: &ModelSpec, time: i64, start: i64) -> bool
     model.is_done(time - start)
 }
 
-/// The mark of the model's start at the tick.
-pub(crate) fn start_mark(active: &Commit, model: &ModelSpec, tick: u64) -> Mark
+/// The start to record for the model at the tick.
+pub(crate) fn start_at(active: &Commit, model: &ModelSpec, tick: u64) -> i64
     requires timeline_there { IsTrue (has_timeline active.now.tree model.now.timeline) }
     requires in_time { IsTime tick }
-    ensures mark { result ≡ start_mark active.now.tree tick model.now }
-    ensures within { StartIsWithin result }
+    ensures start { result ≡ recorded_start model.now.start (time_of active.now.tree tick model.now) }
+    ensures within { unsigned_abs result ≤ LAST_TIME }
 {
-    Mark::Started {
-        model: model.id(),
-        group: model.group(),
-        element: model.element(),
-        property: model.property(),
-        at: tick,
-        start: recorded_start(model.start(), time_of(active, model, tick)),
-    }
+    let _ = model.id();
+    recorded_start(model.start(), time_of(active, model, tick))
 }
 
 // The start to record: the given one, else what the timeline shows.

@@ -3,7 +3,7 @@ ghost use Rattle.anim_host.specs.Rows.{advanced_row, entered, joined, left, row_
 ghost use Rattle.tree_commit.specs.Marks.{model_of};
 
 use crate::row::{ModelRow, RunState, advanced};
-use crate::marks::model_of;
+use crate::mark_list::model_of;
 use anim_names::ModelId;
 use slab::Slab;
 use std::alloc::{AllocError, Global};

@@ -1,23 +1,29 @@
-ghost use Rattle.std.specs.Prelude.{◌≡◌, ◌≤◌, ◌<◌, ◌+◌, ℕ, [], ◌∷◌, length, List, map, nat_eq, unsigned_abs, IfSome, true, false, None, Some, IfOk, OnOk, OnErr, option_map, if◌then◌else◌};
-ghost use Rattle.std.specs.List.{IsDistinct};
+ghost use Rattle.std.specs.Prelude.{◌≡◌, ◌≢◌, ◌++◌, not, ◌≤◌, ◌<◌, ◌+◌, ℕ, [], ◌∷◌, length, List, map, nat_eq, unsigned_abs, IfSome, true, false, None, Some, IfOk, OnOk, OnErr, option_map, if◌then◌else◌};
+ghost use Rattle.std.specs.List.{list_any};
 ghost use Rattle.anim_timeline.specs.declared.TheConstants.{LAST_TIME};
-ghost use Rattle.anim_host.specs.MarkLists.{Marked, StartIsWithin, StartsAreWithin, events_behind};
+ghost use Rattle.anim_host.specs.MarkLists.{StartIsWithin};
+ghost use Rattle.anim_host.specs.Fits.{IsOf, IsReleased, IsThereIfRunning, MarksFit};
+ghost use Rattle.anim_names.specs.declared.lane.Tree as lane;
+ghost use Rattle.element_anims.specs.Elements.{is_present};
+ghost use Rattle.tree_commit.specs.declared.runs.mark.Mark.TheVariants.{Started};
 ghost use Rattle.anim_host.specs.Rows.{row_at};
 ghost use Rattle.anim_host.specs.Standing.{Stood, with_new};
 ghost use Rattle.anim_host.specs.States.{FinishesStarted, has_ended, is_among, row_for, runs, shown_at, state_of};
 ghost use Rattle.anim_host.specs.declared.row.RunState.TheVariants.{Waiting};
-ghost use Rattle.keyframe_model.specs.Models.{Spec};
+ghost use Rattle.keyframe_model.specs.Models.{Spec, property_of};
 ghost use Rattle.tree_commit.specs.declared.runs.mark.Mark as declared;
-ghost use Rattle.tree_commit.specs.Follows.{IsAmong};
+ghost use Rattle.tree_commit.specs.Follows.{Follows, IsAmong};
 ghost use Rattle.tree_commit.specs.Frames.{shown_by};
-ghost use Rattle.tree_commit.specs.Marks.{aborts, ends, is_ended, is_running, is_started, model_of};
-ghost use Rattle.tree_commit.specs.Trees.{empty_commit, has_model};
+ghost use Rattle.tree_commit.specs.Marks.{aborts, blocks, ends, is_blocked_for, is_ended, is_group_running, is_running, is_started, model_of, starts_in};
+ghost use Rattle.tree_commit.specs.Trees.{empty_commit, has_element, has_model};
 
+use crate::elements::{self, announce, hold, release, swap};
 use crate::mark_list::MarkList;
-use crate::marks::model_of;
 use crate::row::RunState;
 use crate::rows::RowTable;
-use anim_names::{AnimEvent, ModelId};
+use anim_names::{ElementId, GroupId, ModelId, Property};
+use element_anims::ElementAnims;
+use keyframe_model::ModelSpec;
 use std::alloc::{AllocError, Global};
 use std::marker::Model;
 use std::sync::Arc;
@@ -33,6 +39,7 @@ pub(crate) struct Standing {
     pending: Option<Arc<Commit>>,
     marks: MarkList,
     rows: RowTable,
+    elements: ElementAnims,
 }
 
 impl Drop for Standing {
@@ -42,6 +49,7 @@ impl Drop for Standing {
             pending: _pending,
             marks: _marks,
             rows: _rows,
+            elements: _elements,
         } = self;
     }
 }
@@ -59,7 +67,7 @@ impl Model for Standing {
     } };
 
     ghost invariant = { λ s.
-        StandsFor s.rows s.active.value (option_map (λ commit. commit.value) s.pending) s.marks.marks };
+        StandsFor s.rows s.elements s.active.value (option_map (λ commit. commit.value) s.pending) s.marks.marks };
 }
 
 impl Standing {
@@ -73,6 +81,7 @@ impl Standing {
             pending: None,
             marks: MarkList::new(alloc),
             rows: RowTable::new(alloc),
+            elements: ElementAnims::new(alloc)?,
         })
     }
 
@@ -124,6 +133,24 @@ impl Standing {
         }
     }
 
+    /// Whether some other group blocks the property of the element.
+    pub(crate) fn is_blocked_for(&self, group: GroupId, element: ElementId, property: Property) -> bool
+        ensures { result ≡ is_blocked_for self.now.list.marks group element property }
+    {
+        match self.elements.blocked_by(element, property) {
+            None => false,
+            Some(blocker) => group != blocker,
+        }
+    }
+
+    /// Does nothing. What is so of every value of the type, its clauses say of this one.
+    pub(crate) fn vouch(&self)
+        ensures fits { MarksFit self.now.active.tree.models self.now.list.marks }
+        ensures follows { IfSome self.now.pending (λ commit. Follows self.now.active.tree commit.tree self.now.list.marks) }
+    {
+        let _ = &self.rows;
+    }
+
     /// Makes room for this many further marks. Where there is no memory, all stays as it was.
     pub(crate) fn reserve(&mut self, count: usize) -> Result<(), AllocError>
         ensures room { OnOk result (length self.new.list.marks + count ≤ self.new.list.room) }
@@ -134,16 +161,44 @@ impl Standing {
         self.marks.reserve(count)
     }
 
-    /// Puts a mark behind the others, and what it says into the table.
-    pub(crate) fn push(&mut self, mark: Mark)
+    /// A model of the active commit starts: its mark goes behind the others, and from then on its group blocks its
+    /// property. No other group does, and its own group has started nothing that does not run.
+    pub(crate) fn start(&mut self, model: &ModelSpec, at: u64, start: i64)
         requires room { length self.old.list.marks < self.old.list.room }
+        requires within { unsigned_abs start ≤ LAST_TIME }
+        requires there { IsAmong model.now self.old.active.tree.models }
+        requires present { has_element self.old.active.tree model.now.element ≡ true }
+        requires alive { is_ended self.old.list.marks model.now.id ≡ false }
+        requires whole { list_any (starts_in model.now.group) self.old.list.marks ≡ is_group_running self.old.list.marks model.now.group }
+        requires free { (other : ℕ) → other ≢ model.now.group
+            → blocks self.old.list.marks other model.now.element (property_of model.now) ≡ false }
+        ensures { self.new ≡ with_new self.old (Started model.now.id model.now.group model.now.element (property_of model.now) at start ∷ []) }
+    {
+        let _ = self.active.model_count();
+        let order = self.marks.next_order();
+        let mark = started(model, at, start);
+        self.rows.advance(&mark, order);
+        hold(&mut self.elements, model.element(), model.property(), model.group());
+        self.marks.push(mark);
+    }
+
+    /// A model of the active commit ends: its mark goes behind the others. Where it is the last of its group that runs,
+    /// the group blocks nothing any more.
+    pub(crate) fn end(&mut self, model: &ModelSpec, mark: Mark, is_last: bool)
+        requires room { length self.old.list.marks < self.old.list.room }
+        requires there { IsAmong model.now self.old.active.tree.models }
+        requires of { IsOf mark model.now }
+        requires ends { (group : ℕ) → starts_in group mark ≡ false }
         requires within { StartIsWithin mark }
         requires started { ends (model_of mark) mark ≡ true → aborts (model_of mark) mark ≡ false
             → is_started self.old.list.marks (model_of mark) ≡ true }
+        requires last { is_group_running (self.old.list.marks ++ mark ∷ []) model.now.group ≡ not is_last }
         ensures { self.new ≡ with_new self.old (mark ∷ []) }
     {
+        let _ = self.active.model_count();
         let order = self.marks.next_order();
         self.rows.advance(&mark, order);
+        release_if(is_last, &mut self.elements, model.element(), model.group());
         self.marks.push(mark);
     }
 
@@ -157,8 +212,7 @@ impl Standing {
     /// Makes this the pending commit, with room for a mark for each model of the active one. The host shares it.
     pub(crate) fn push_commit(&mut self, commit: &Arc<Commit>) -> Result<(), AllocError>
         requires free { self.old.pending ≡ None }
-        requires wait { (model : Spec) → IsAmong model commit.now.value.tree.models
-            → has_model self.old.active.tree model.id ≡ false → state_of self.old.list.marks model.id ≡ Waiting }
+        requires follows { Follows self.old.active.tree commit.now.value.tree self.old.list.marks }
         ensures ok { OnOk result (self.new ≡ record self.old {
             pending = Some commit.now.value;
             list = record self.old.list { room = self.new.list.room };
@@ -168,22 +222,52 @@ impl Standing {
     {
         let commit = commit.clone()?;
         self.rows.reserve(commit.model_count())?;
+        elements::reserve(&mut self.elements, &commit)?;
         self.marks.reserve(self.active.model_count())?;
         join_pending(&mut self.rows, &commit);
+        announce(&mut self.elements, &commit);
         self.pending = Some(commit);
         Ok(())
     }
 
-    /// Makes the pending commit the active one. It takes no memory.
+    /// Makes the pending commit the active one, which has each model that runs. It takes no memory.
     pub(crate) fn take_over(&mut self, commit: &Commit)
-        requires { self.old.pending ≡ Some commit.now }
+        requires pending { self.old.pending ≡ Some commit.now }
+        requires running { (mark : declared.Mark) → IsAmong mark self.old.list.marks
+            → IsThereIfRunning commit.now.tree.models self.old.list.marks mark }
         ensures { self.new ≡ record self.old { active = commit.now; pending = None } }
     {
         if let Some(pending) = self.pending.take() {
             leave_active(&mut self.rows, &self.active);
             enter_active(&mut self.rows, &pending);
+            swap(&mut self.elements, &self.active, &pending);
             self.active = pending;
         }
+    }
+}
+
+// The mark of the model's start.
+fn started(model: &ModelSpec, at: u64, start: i64) -> Mark
+    ensures { result ≡ Started model.now.id model.now.group model.now.element (property_of model.now) at start }
+{
+    Mark::Started {
+        model: model.id(),
+        group: model.group(),
+        element: model.element(),
+        property: model.property(),
+        at,
+        start,
+    }
+}
+
+// The group blocks nothing of the element any more, where the test says so.
+fn release_if(test: bool, elements: &mut ElementAnims, element: ElementId, group: GroupId)
+    ensures freed { test ≡ true → IsReleased element group elements.old elements.new }
+    ensures kept { test ≡ false → elements.new ≡ elements.old }
+    ensures presence { (t : lane.Tree) (e : ℕ) → is_present elements.new t e ≡ is_present elements.old t e }
+{
+    if test {
+        release(elements, element, group);
     }
 }
 

@@ -1,18 +1,20 @@
 //! What starts at a tick.
 
-ghost use Rattle.std.specs.Prelude.{◌≡◌, ◌+◌, ◌≤◌, ◌<◌, ◌∷◌, [], ◌&&◌, not, ℕ, true, length, map, option_map, slice_get, Some, IsTrue, IfOk};
+ghost use Rattle.std.specs.Prelude.{◌≡◌, ◌+◌, ◌≤◌, ◌<◌, ◌∷◌, [], ◌&&◌, not, ℕ, true, false, length, map, option_map, slice_get, Some, IsTrue, IfOk};
 ghost use Rattle.std.specs.List.{list_all, list_any};
+ghost use Rattle.anim_host.specs.Fits.{AreSettled, MayStartIn};
+ghost use Rattle.keyframe_model.specs.Models.{Spec};
+ghost use Rattle.tree_commit.specs.Follows.{IsAmong};
 ghost use Rattle.anim_host.specs.MarkLists.{start_room};
 ghost use Rattle.anim_host.specs.Shapes.{at_places, shape_of};
 ghost use Rattle.anim_host.specs.Standing.{with_new};
 ghost use Rattle.anim_timeline.specs.Timelines.{IsTime};
-ghost use Rattle.tree_commit.specs.Marks.{group_marks, is_ready, may_start, pending_allows, start_mark, start_marks, starts_in};
+ghost use Rattle.tree_commit.specs.Marks.{group_marks, is_group_running, is_ready, may_start, pending_allows, start_mark, start_marks, starts_in};
 ghost use Rattle.tree_commit.specs.Tables.{HasAllTimelines, has_timeline};
 ghost use Rattle.tree_commit.specs.Trees.{groups_of, has_group};
 
 use crate::mark_list::sum;
-use crate::marks::{has_started, is_blocked_for};
-use crate::models::start_mark;
+use crate::models::start_at;
 use crate::shape::Shape;
 use crate::standing::Standing;
 use anim_names::{ElementId, GroupId};
@@ -34,7 +36,9 @@ pub(crate) fn start_groups(
     requires next { next.now ≡ option_map (λ commit. shape_of commit.tree.models) standing.old.pending }
     requires room { length standing.old.list.marks + (start_room active.now.tree (groups_of active.now.tree) + length active.now.tree.models)
         ≤ standing.old.list.room }
+    requires settled { AreSettled active.now.tree.models standing.old.list.marks }
     requires in_time { IsTime tick }
+    ensures settled { AreSettled active.now.tree.models standing.new.list.marks }
     ensures marks { standing.new ≡ with_new standing.old
         (start_marks active.now.tree standing.old.pending standing.old.list.marks tick (groups_of active.now.tree)) }
     ensures left { length standing.new.list.marks + length active.now.tree.models ≤ standing.new.list.room }
@@ -71,17 +75,30 @@ fn start_group(
     requires next { next.now ≡ option_map (λ commit. shape_of commit.tree.models) standing.old.pending }
     requires room { length standing.old.list.marks + length active.now.tree.models ≤ standing.old.list.room }
     requires timelines_there { HasAllTimelines active.now.tree }
+    requires settled { AreSettled active.now.tree.models standing.old.list.marks }
     requires in_time { IsTime tick }
-    ensures { standing.new ≡ with_new standing.old
+    ensures marks { standing.new ≡ with_new standing.old
         (group_marks active.now.tree standing.old.pending standing.old.list.marks tick group) }
+    ensures settled { AreSettled active.now.tree.models standing.new.list.marks }
 {
+    standing.vouch();
     if is_ready(standing, active, shape, next, group) {
-        start_members(standing, active, shape.places(group), tick);
+        start_members(standing, active, shape.places(group), group, tick);
     }
 }
 
-// Each model at these places.
-fn start_members(standing: &mut Standing, active: &Commit, places: &[usize], tick: u64)
+// Each model at these places, which are those of a group that is ready.
+fn start_members(
+    standing: &mut Standing,
+    active: &Commit,
+    places: &[usize],
+    group: GroupId,
+    tick: u64,
+)
+    requires active { active.now ≡ standing.old.active }
+    requires waiting { list_any (starts_in group) standing.old.list.marks ≡ false }
+    requires members { (model : Spec) → IsAmong model (at_places active.now.tree.models places.now)
+        → MayStartIn group active.now.tree standing.old.list.marks model }
     requires room { length standing.old.list.marks + length places.now ≤ standing.old.list.room }
     requires places { (j place : ℕ) → slice_get places.now j ≡ Some place → place < length active.now.tree.models }
     requires timelines_there { HasAllTimelines active.now.tree }
@@ -95,12 +112,16 @@ fn start_members(standing: &mut Standing, active: &Commit, places: &[usize], tic
 }
 
 fn start_one(standing: &mut Standing, active: &Commit, model: &ModelSpec, tick: u64)
+    requires active { active.now ≡ standing.old.active }
+    requires there { IsAmong model.now active.now.tree.models }
+    requires may { MayStartIn model.now.group active.now.tree standing.old.list.marks model.now }
+    requires whole { list_any (starts_in model.now.group) standing.old.list.marks ≡ is_group_running standing.old.list.marks model.now.group }
     requires room { length standing.old.list.marks < standing.old.list.room }
     requires timeline_there { IsTrue (has_timeline active.now.tree model.now.timeline) }
     requires in_time { IsTime tick }
     ensures { standing.new ≡ with_new standing.old (start_mark active.now.tree tick model.now ∷ []) }
 {
-    standing.push(start_mark(active, model, tick));
+    standing.start(model, tick, start_at(active, model, tick));
 }
 
 // Whether the group may start: it has models in the active commit, none that started, and each of those may start.
@@ -113,6 +134,8 @@ fn is_ready(
     group: GroupId,
 ) -> bool
     requires shape { shape.now ≡ shape_of active.now.tree.models }
+    requires active { active.now ≡ standing.now.active }
+    requires settled { AreSettled active.now.tree.models standing.now.list.marks }
     requires next { next.now ≡ option_map (λ commit. shape_of commit.tree.models) standing.now.pending }
     ensures { result ≡ is_ready active.now.tree standing.now.pending standing.now.list.marks group }
 {
@@ -120,12 +143,30 @@ fn is_ready(
         && may_all_start(standing, active, next, shape.places(group))
 }
 
-// Whether the group has models in the active commit, and none that started.
+// Whether the group has models in the active commit, and none that started: it starts as a whole, so that the first
+// model tells.
 fn is_waiting(standing: &Standing, active: &Commit, shape: &Shape, group: GroupId) -> bool
+    requires active { active.now ≡ standing.now.active }
     requires shape { shape.now ≡ shape_of active.now.tree.models }
+    requires settled { AreSettled active.now.tree.models standing.now.list.marks }
     ensures { result ≡ (has_group active.now.tree group && not (list_any (starts_in group) standing.now.list.marks)) }
 {
-    has_group(active, shape, group) && !has_started(standing.marks().marks(), group)
+    standing.vouch();
+    match shape.places(group).first() {
+        None => false,
+        Some(place) => !has_started(standing, active.model_at(*place)),
+    }
+}
+
+// Whether the model, and so its group, has started.
+fn has_started(standing: &Standing, model: &ModelSpec) -> bool
+    requires there { IsAmong model.now standing.now.active.tree.models }
+    requires settled { AreSettled standing.now.active.tree.models standing.now.list.marks }
+    ensures { result ≡ list_any (starts_in model.now.group) standing.now.list.marks }
+{
+    standing.vouch();
+    let state = standing.state(model.id());
+    state.runs() || state.has_ended()
 }
 
 // Whether each model at these places may start.
@@ -160,7 +201,7 @@ fn may_start(
     let (group, element) = (model.group(), model.element());
     active.has_element(element)
         && pending_allows(standing.pending(), next, group, element)
-        && !is_blocked_for(standing.marks().marks(), group, element, model.property())
+        && !standing.is_blocked_for(group, element, model.property())
 }
 
 // Whether a pending commit that has a model of the group has the element too.

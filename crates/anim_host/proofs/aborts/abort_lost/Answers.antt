@@ -1,15 +1,16 @@
-use Rattle.std.proofs.Common.{◌≡◌, ◌≢◌, ◌+◌, ◌∷◌, [], ◌++◌, ℕ, List, Some, Bool, true, false, not, ◌||◌, drop, filter, map, length, nat_eq, ap, sym, refl, ◌∙◌, arith, add-one}
+use Rattle.std.proofs.Common.{◌≡◌, ◌≢◌, ◌+◌, ◌∷◌, [], ◌++◌, ℕ, List, Some, Bool, true, false, not, ◌||◌, drop, filter, map, length, nat_eq, ap, sym, subst, refl, ◌∙◌, arith, add-one}
 use Rattle.std.specs.Prelude.{◌&&◌, ◌==◌}
 use Rattle.std.proofs.lemmas.Bool.{eq-eqb}
 use Rattle.keyframe_model.specs.Models.{Spec}
 use Rattle.tree_commit.specs.declared.runs.mark.Mark.{Mark}
 use Rattle.tree_commit.specs.declared.runs.mark.Mark.TheVariants.{Aborted}
 use Rattle.tree_commit.specs.Marks.{is_ended, is_lost, is_started, marks_of_activation}
-use Rattle.tree_commit.specs.Trees.{Committed, has_element, has_model}
+use Rattle.tree_commit.specs.Trees.{has_element, has_model}
+use Rattle.tree_commit.specs.Follows.{IsAmong}
 use Rattle.anim_host.specs.MarkLists.{mark_if}
 use Rattle.anim_host.specs.Standing.{Stood, with_new}
 use Rattle.anim_host.specs.States.{is_among}
-use Rattle.anim_host.proofs.AmongLemmas.{among-left, apart-behind, found-there}
+use Rattle.anim_host.proofs.AmongLemmas.{among-left, apart-behind, found-among}
 use Rattle.anim_host.proofs.GrowLemmas.{gives-if, growing-last, growing-next, one-if}
 use Rattle.anim_host.proofs.StateLemmas.{abort-elsewhere}
 use Rattle.anim_host.proofs.aborts.abort_lost.Goals as goal
@@ -23,9 +24,8 @@ true-differs a b t f same = cc
 
 pub abort_one-requires-clause-there : goal.abort_one-requires-clause-there
 abort_one-requires-clause-there c =
-    ap (λ (s : Committed). has_model s.tree c.deref.result.now.id) (c.loop-index.invariant.0.active ∙ sym c.requires.active)
-    ∙ ap (λ (m : Spec). has_model c.args.active.now.tree m.id) c.deref.ensures
-    ∙ found-there c.args.active.now.tree.models c.loop-index.index c.model_at.result.now.value c.model_at.ensures
+    subst (λ (m : Spec). IsAmong m c.args.active.now.tree.models) (sym c.deref.ensures)
+    (found-among c.args.active.now.tree.models c.loop-index.index c.model_at.result.now.value c.model_at.ensures)
 
 pub loop-index-preserved : goal.loop-index-preserved
 loop-index-preserved c =

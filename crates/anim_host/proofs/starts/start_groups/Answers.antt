@@ -22,11 +22,12 @@ loop-index-preserved c =
     let new = c.start_group.new.standing in
     let found = drop-found groups index group (group-found tree.models c.args.shape.now index group c.requires.shape c.group_at.ensures) in
     let is : new.list ≡ with_marks now.list (group_marks tree old.pending now.list.marks c.args.tick group) =
-    ap (λ (s : Stood). s.list) c.start_group.ensures
+    ap (λ (s : Stood). s.list) c.start_group.ensures.marks
     ∙ ap (λ (p : Option Committed). with_marks now.list (group_marks tree p now.list.marks c.args.tick group)) c.loop-index.invariant.2 in (
       starting-next tree old.pending c.args.tick groups index old.list now.list new.list group found is c.loop-index.invariant.0,
-      ap (λ (s : Stood). s.active) c.start_group.ensures ∙ c.loop-index.invariant.1,
-      ap (λ (s : Stood). s.pending) c.start_group.ensures ∙ c.loop-index.invariant.2,
+      ap (λ (s : Stood). s.active) c.start_group.ensures.marks ∙ c.loop-index.invariant.1,
+      ap (λ (s : Stood). s.pending) c.start_group.ensures.marks ∙ c.loop-index.invariant.2,
+      c.start_group.ensures.settled,
     )
 
 pub returns-clause-marks : goal.returns-clause-marks
