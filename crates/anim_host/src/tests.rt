@@ -1,8 +1,44 @@
 use super::*;
+use crate::row::{ModelRow, RunState};
+use crate::rows::RowTable;
+use anim_names::ModelId;
+use std::alloc::AllocError;
+use std::test::Fail;
 
 fn is_shared<T: Send + Sync>() {}
 
 #[test]
 fn types_are_shared_between_threads() {
     is_shared::<AnimHost>();
+}
+
+// Models 1 and 2 are in the active commit, and model 2 in the pending one too, as the pending one takes over.
+fn take_over(rows: &mut RowTable) -> Result<(), AllocError> {
+    rows.reserve(3)?;
+    rows.join_pending(ModelId(1));
+    rows.join_pending(ModelId(2));
+    rows.enter_active(ModelId(1));
+    rows.enter_active(ModelId(2));
+    rows.join_pending(ModelId(2));
+    rows.leave_active(ModelId(1));
+    rows.leave_active(ModelId(2));
+    rows.enter_active(ModelId(2));
+    Ok(())
+}
+
+#[test]
+fn the_row_of_a_model_that_left_both_commits_is_freed(rt: HostRuntime) -> Result<(), Fail> {
+    let mut rows = RowTable::new(rt.alloc());
+    take_over(&mut rows)?;
+    let model = ModelId(2);
+    let kept = ModelRow {
+        model,
+        state: RunState::Waiting,
+        in_active: true,
+        in_pending: false,
+    };
+    assert!(rt; rows.len() == 1);
+    assert!(rt; rows.row(ModelId(1)) == None);
+    assert!(rt; rows.row(model) == Some(kept));
+    Ok(())
 }
