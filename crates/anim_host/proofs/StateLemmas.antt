@@ -16,13 +16,15 @@ use Rattle.tree_commit.specs.Follows.{Follows, IsAmong, has_mark}
 use Rattle.anim_host.proofs.AmongLemmas.{among-there}
 use Rattle.tree_commit.specs.Frames.{shown_by}
 use Rattle.tree_commit.specs.Marks.{aborts, ends, is_aborted, is_ended, is_running, is_started, model_of, start_from, start_of, starts}
-use Rattle.anim_host.specs.declared.row.RunState.{RunState}
-use Rattle.anim_host.specs.declared.row.RunState.TheVariants as state
+use Rattle.keyframe_effect.specs.declared.state.RunState.{RunState}
+use Rattle.keyframe_effect.specs.declared.state.RunState.TheVariants as state
 use Rattle.std.specs.Prelude.{unsigned_abs, IfSome}
 use Rattle.anim_timeline.specs.declared.TheConstants.{LAST_TIME}
 use Rattle.std.proofs.lemmas.List.{append-nil}
 use Rattle.anim_host.specs.MarkLists.{StartsAreWithin, mark_if, start_in}
-use Rattle.anim_host.specs.States.{FinishesStarted, advanced, is_among, has_ended, run_of, runs, shown_at, state_from, state_of}
+use Rattle.anim_host.specs.States.{FinishesStarted, advanced, is_among, run_of, shown_at, state_from, state_of}
+use Rattle.keyframe_effect.specs.States.{is_unfinished}
+use Rattle.keyframe_effect.specs.States as effect
 use Rattle.anim_host.proofs.MarkLemmas.{start-found, start-later, start_within}
 
 -- ---- marks with one more
@@ -155,15 +157,15 @@ same-parts marks a e o id no_abort no_end no_start =
 
 pub state-other : (marks : List Mark) (mark : Mark) (id : ℕ) → id ≢ model_of mark → state_of (marks ++ mark ∷ []) id ≡ state_of marks id
 state-other marks (Started model group element property at start) id other =
-    let nope : (id == model) ≡ false = apart id model other in
+    let no : (id == model) ≡ false = apart id model other in
     parts marks (Started model group element property at start) id
-    ∙ same-parts marks false false (if id == model then Some start else None) id refl refl (ap (λ b. if b then Some start else None) nope)
+    ∙ same-parts marks false false (if id == model then Some start else None) id refl refl (ap (λ b. if b then Some start else None) no)
 state-other marks (Finished model at) id other =
-    let nope : (id == model) ≡ false = apart id model other in
-    parts marks (Finished model at) id ∙ same-parts marks false (id == model) None id refl nope refl
+    let no : (id == model) ≡ false = apart id model other in
+    parts marks (Finished model at) id ∙ same-parts marks false (id == model) None id refl no refl
 state-other marks (Aborted model commit) id other =
-    let nope : (id == model) ≡ false = apart id model other in
-    parts marks (Aborted model commit) id ∙ same-parts marks (id == model) (id == model) None id nope nope refl
+    let no : (id == model) ≡ false = apart id model other in
+    parts marks (Aborted model commit) id ∙ same-parts marks (id == model) (id == model) None id no no refl
 
 -- a mark about the model advances it
 pub state-here : (marks : List Mark) (mark : Mark) → FinishesStarted marks
@@ -206,7 +208,7 @@ abort-ends (Aborted model commit ∷ marks) id = or-both (id == model) (is_abort
     or-both false c d so fact = so fact
 
 running-parts : (aborted ended : Bool) (start : Option Shown) → (aborted ≡ true → ended ≡ true)
-    → runs (state_from aborted ended start) ≡ (is_some start && not ended)
+    → is_unfinished (state_from aborted ended start) ≡ (is_some start && not ended)
 running-parts true true None both = refl
 running-parts true true (Some shown) both = refl
 running-parts true false start both = cc (both refl)
@@ -215,7 +217,7 @@ running-parts false true (Some shown) both = refl
 running-parts false false None both = refl
 running-parts false false (Some shown) both = refl
 
-pub state-runs : (marks : List Mark) (id : ℕ) → runs (state_of marks id) ≡ is_running marks id
+pub state-runs : (marks : List Mark) (id : ℕ) → is_unfinished (state_of marks id) ≡ is_running marks id
 unfolding state_of
 state-runs marks id =
     running-parts (is_aborted marks id) (is_ended marks id) (start_of marks id) (abort-ends marks id)
@@ -223,7 +225,7 @@ state-runs marks id =
 
 ended-parts : (aborted ended : Bool) (start : Option Shown) → (aborted ≡ true → ended ≡ true)
     → (ended ≡ true → aborted ≡ false → is_some start ≡ true)
-    → has_ended (state_from aborted ended start) ≡ ended
+    → effect.is_ended (state_from aborted ended start) ≡ ended
 ended-parts true true start both fits = refl
 ended-parts true false start both fits = cc (both refl)
 ended-parts false true None both fits = cc (fits refl refl)
@@ -231,7 +233,7 @@ ended-parts false true (Some shown) both fits = refl
 ended-parts false false None both fits = refl
 ended-parts false false (Some shown) both fits = refl
 
-pub state-ended : (marks : List Mark) (id : ℕ) → FinishesStarted marks → has_ended (state_of marks id) ≡ is_ended marks id
+pub state-ended : (marks : List Mark) (id : ℕ) → FinishesStarted marks → effect.is_ended (state_of marks id) ≡ is_ended marks id
 unfolding state_of
 state-ended marks id fits =
     ended-parts (is_aborted marks id) (is_ended marks id) (start_of marks id) (abort-ends marks id)

@@ -2,7 +2,7 @@
 use Rattle.std.specs.Prelude.{◌≡◌, ℕ, nat_eq, List, Option, Some, None, option_and_then, option_map, slice_index_or, count_by, is_some, true, false, if◌then◌else◌}
 use Rattle.std.specs.Map.{lookup}
 use Rattle.anim_host.specs.declared.row.ModelRow.{ModelRow}
-use Rattle.anim_host.specs.declared.row.RunState.TheVariants as state
+use Rattle.keyframe_effect.specs.declared.state.RunState.TheVariants as state
 use Rattle.anim_host.specs.States.{advanced}
 use Rattle.tree_commit.specs.declared.runs.mark.Mark.{Mark}
 

@@ -8,8 +8,9 @@ use Rattle.tree_commit.specs.declared.runs.shown.Shown.{Shown}
 use Rattle.tree_commit.specs.Trees.{Committed, TreeLists}
 use Rattle.tree_commit.specs.Marks.{is_aborted, is_ended, is_started, start_of}
 use Rattle.anim_host.specs.declared.row.ModelRow.{ModelRow}
-use Rattle.anim_host.specs.declared.row.RunState.{RunState}
-use Rattle.anim_host.specs.declared.row.RunState.TheVariants as state
+use Rattle.keyframe_effect.specs.States.{after_finish}
+use Rattle.keyframe_effect.specs.declared.state.RunState.{RunState}
+use Rattle.keyframe_effect.specs.declared.state.RunState.TheVariants as state
 
 -- ---- how far a model has come
 
@@ -39,40 +40,23 @@ FinishesStarted marks =
 abbrev pub started : RunState → ℤ → ℕ → RunState
 started state.Waiting start order = state.Running start order
 started (state.Running begun place) start order = state.Running begun place
+started (state.Done begun place) start order = state.Done begun place
 started (state.Finished begun place) start order = state.Finished begun place
 started state.Aborted start order = state.Aborted
-
--- a running model is finished
-abbrev pub finished : RunState → RunState
-finished state.Waiting = state.Waiting
-finished (state.Running start order) = state.Finished start order
-finished (state.Finished start order) = state.Finished start order
-finished state.Aborted = state.Aborted
 
 -- the state of a model with one more mark about it, which has this index
 abbrev pub advanced : RunState → Mark → ℕ → RunState
 advanced before (Started model group element property at start) order = started before start order
-advanced before (Finished model at) order = finished before
+advanced before (Finished model at) order = after_finish before
 advanced before (Aborted model commit) order = state.Aborted
 
 -- ---- what a state says
-
-abbrev pub runs : RunState → Bool
-runs state.Waiting = false
-runs (state.Running start order) = true
-runs (state.Finished start order) = false
-runs state.Aborted = false
-
-abbrev pub has_ended : RunState → Bool
-has_ended state.Waiting = false
-has_ended (state.Running start order) = false
-has_ended (state.Finished start order) = true
-has_ended state.Aborted = true
 
 -- what is shown of a model in this state
 abbrev pub shown_at : RunState → Option Shown
 shown_at state.Waiting = None
 shown_at (state.Running start order) = Some (record { start = start; order = order })
+shown_at (state.Done start order) = Some (record { start = start; order = order })
 shown_at (state.Finished start order) = Some (record { start = start; order = order })
 shown_at state.Aborted = None
 

@@ -10,6 +10,7 @@ ghost use Rattle.tree_commit.specs.Marks.{is_lost, marks_of_activation};
 ghost use Rattle.tree_commit.specs.Trees.{has_model};
 
 use crate::ends::end_model;
+use crate::row::{has_ended, runs};
 use crate::shape::Shape;
 use crate::standing::Standing;
 use keyframe_model::ModelSpec;
@@ -57,6 +58,6 @@ fn is_lost(standing: &Standing, model: &ModelSpec, new: &Commit) -> bool
     ensures { result ≡ is_lost new.now.tree standing.now.list.marks model.now }
 {
     let state = standing.state(model.id());
-    !state.has_ended()
-        && (!new.has_model(model.id()) || (state.runs() && !new.has_element(model.element())))
+    !has_ended(state)
+        && (!new.has_model(model.id()) || (runs(state) && !new.has_element(model.element())))
 }

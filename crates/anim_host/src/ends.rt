@@ -10,6 +10,7 @@ ghost use Rattle.tree_commit.specs.Follows.{IsAmong};
 ghost use Rattle.tree_commit.specs.Marks.{aborts, ends, is_running, is_started, model_of, starts_in};
 ghost use Rattle.tree_commit.specs.Trees.{has_model};
 
+use crate::row::runs;
 use crate::shape::Shape;
 use crate::standing::Standing;
 use anim_names::ModelId;
@@ -60,5 +61,5 @@ fn runs_beside(standing: &Standing, model: &ModelSpec, id: ModelId) -> bool
     requires there { has_model standing.now.active.tree model.now.id ≡ true }
     ensures { result ≡ (not (model.now.id == id) && is_running standing.now.list.marks model.now.id) }
 {
-    model.id() != id && standing.state(model.id()).runs()
+    model.id() != id && runs(standing.state(model.id()))
 }

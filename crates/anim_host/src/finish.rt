@@ -10,6 +10,7 @@ ghost use Rattle.tree_commit.specs.Tables.{HasAllTimelines, has_timeline};
 ghost use Rattle.tree_commit.specs.Trees.{has_model};
 
 use crate::models::is_over;
+use crate::row::{runs, shown};
 use crate::shape::Shape;
 use crate::standing::Standing;
 use keyframe_model::ModelSpec;
@@ -64,7 +65,7 @@ fn finishes(
     requires in_time { IsTime tick }
     ensures { result ≡ finishes active.now.tree standing.now.list.marks tick model.now }
 {
-    standing.state(model.id()).runs()
+    runs(standing.state(model.id()))
         && are_over(standing, active, shape.places(model.group()), tick)
 }
 
@@ -97,8 +98,8 @@ fn is_over_or_still(standing: &Standing, active: &Commit, model: &ModelSpec, tic
         else true) }
 {
     let state = standing.state(model.id());
-    if state.runs() {
-        is_over(active, model, tick, state.shown())
+    if runs(state) {
+        is_over(active, model, tick, shown(state))
     } else {
         true
     }

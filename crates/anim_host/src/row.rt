@@ -1,18 +1,10 @@
 ghost use Rattle.std.specs.Prelude.{◌≡◌};
-ghost use Rattle.anim_host.specs.States.{advanced, finished, has_ended, runs, shown_at, started};
+ghost use Rattle.anim_host.specs.States.{advanced, shown_at, started};
+ghost use Rattle.keyframe_effect.specs.States.{after_finish, is_ended, is_unfinished};
 
 use anim_names::ModelId;
+use keyframe_effect::RunState;
 use tree_commit::{Mark, Shown};
-
-/// How far a keyframe model has come. A recorded start is in microseconds of the model's timeline, and the order is the
-/// index of the start among the marks.
-#[derive(Clone, Copy, Debug, PartialEq, Eq)]
-pub(crate) enum RunState {
-    Waiting,
-    Running { start: i64, order: u32 },
-    Finished { start: i64, order: u32 },
-    Aborted,
-}
 
 /// What the host keeps of a keyframe model of the active or the pending commit.
 #[derive(Clone, Copy, Debug, PartialEq, Eq)]
@@ -23,41 +15,42 @@ pub(crate) struct ModelRow {
     pub(crate) in_pending: bool,
 }
 
-impl RunState {
-    /// Whether the model started and did not end.
-    pub(crate) fn runs(&self) -> bool
-        ensures { result ≡ runs self.now }
-    {
-        match self {
-            RunState::Waiting => false,
-            RunState::Running { .. } => true,
-            RunState::Finished { .. } => false,
-            RunState::Aborted => false,
-        }
+/// Whether the model started and did not end.
+pub(crate) fn runs(state: RunState) -> bool
+    ensures { result ≡ is_unfinished state }
+{
+    match state {
+        RunState::Waiting => false,
+        RunState::Running { .. } => true,
+        RunState::Done { .. } => true,
+        RunState::Finished { .. } => false,
+        RunState::Aborted => false,
     }
+}
 
-    /// Whether the model finished or was aborted.
-    pub(crate) fn has_ended(&self) -> bool
-        ensures { result ≡ has_ended self.now }
-    {
-        match self {
-            RunState::Waiting => false,
-            RunState::Running { .. } => false,
-            RunState::Finished { .. } => true,
-            RunState::Aborted => true,
-        }
+/// Whether the model finished or was aborted.
+pub(crate) fn has_ended(state: RunState) -> bool
+    ensures { result ≡ is_ended state }
+{
+    match state {
+        RunState::Waiting => false,
+        RunState::Running { .. } => false,
+        RunState::Done { .. } => false,
+        RunState::Finished { .. } => true,
+        RunState::Aborted => true,
     }
+}
 
-    /// What is shown of the model: nothing before it started and once it was aborted.
-    pub(crate) fn shown(&self) -> Option<Shown>
-        ensures { result ≡ shown_at self.now }
-    {
-        match *self {
-            RunState::Waiting => None,
-            RunState::Running { start, order } => Some(Shown { start, order }),
-            RunState::Finished { start, order } => Some(Shown { start, order }),
-            RunState::Aborted => None,
-        }
+/// What is shown of the model: nothing before it started and once it was aborted.
+pub(crate) fn shown(state: RunState) -> Option<Shown>
+    ensures { result ≡ shown_at state }
+{
+    match state {
+        RunState::Waiting => None,
+        RunState::Running { start, order } => Some(Shown { start, order }),
+        RunState::Done { start, order } => Some(Shown { start, order }),
+        RunState::Finished { start, order } => Some(Shown { start, order }),
+        RunState::Aborted => None,
     }
 }
 
@@ -84,10 +77,11 @@ fn started(state: RunState, start: i64, order: u32) -> RunState
 
 // A running model is finished.
 fn finished(state: RunState) -> RunState
-    ensures { result ≡ finished state }
+    ensures { result ≡ after_finish state }
 {
     match state {
         RunState::Running { start, order } => RunState::Finished { start, order },
+        RunState::Done { start, order } => RunState::Finished { start, order },
         other => other,
     }
 }

@@ -8,8 +8,10 @@ ghost use Rattle.element_anims.specs.Elements.{is_present};
 ghost use Rattle.tree_commit.specs.declared.runs.mark.Mark.TheVariants.{Started};
 ghost use Rattle.anim_host.specs.Rows.{row_at};
 ghost use Rattle.anim_host.specs.Standing.{Stood, with_new};
-ghost use Rattle.anim_host.specs.States.{FinishesStarted, has_ended, is_among, row_for, runs, shown_at, state_of};
-ghost use Rattle.anim_host.specs.declared.row.RunState.TheVariants.{Waiting};
+ghost use Rattle.anim_host.specs.States.{FinishesStarted, is_among, row_for, shown_at, state_of};
+ghost use Rattle.keyframe_effect.specs.declared.state.RunState.TheVariants.{Waiting};
+ghost use Rattle.keyframe_effect.specs.States as state;
+ghost use Rattle.keyframe_effect.specs.States.{is_unfinished};
 ghost use Rattle.keyframe_model.specs.Models.{Spec, property_of};
 ghost use Rattle.tree_commit.specs.declared.runs.mark.Mark as declared;
 ghost use Rattle.tree_commit.specs.Follows.{Follows, IsAmong};
@@ -19,10 +21,11 @@ ghost use Rattle.tree_commit.specs.Trees.{empty_commit, has_element, has_model};
 
 use crate::elements::{self, announce, hold, release, swap};
 use crate::mark_list::MarkList;
-use crate::row::RunState;
+use crate::row;
 use crate::rows::RowTable;
 use anim_names::{ElementId, GroupId, ModelId, Property};
 use element_anims::ElementAnims;
+use keyframe_effect::RunState;
 use keyframe_model::ModelSpec;
 use std::alloc::{AllocError, Global};
 use std::marker::Model;
@@ -102,8 +105,8 @@ impl Standing {
     /// How far a model of the active commit has come.
     pub(crate) fn state(&self, id: ModelId) -> RunState
         requires { has_model self.now.active.tree id ≡ true }
-        ensures runs { runs result ≡ is_running self.now.list.marks id }
-        ensures ended { has_ended result ≡ is_ended self.now.list.marks id }
+        ensures runs { is_unfinished result ≡ is_running self.now.list.marks id }
+        ensures ended { state.is_ended result ≡ is_ended self.now.list.marks id }
         ensures shown { shown_at result ≡ shown_by self.now.list.marks id }
         ensures within { IfSome (shown_at result) (λ s. unsigned_abs s.start ≤ LAST_TIME) }
     {
@@ -128,7 +131,7 @@ impl Standing {
         ensures { result ≡ (if has_model self.now.active.tree id then shown_by self.now.list.marks id else None) }
     {
         match self.rows.row(id) {
-            Some(row) if row.in_active => row.state.shown(),
+            Some(row) if row.in_active => row::shown(row.state),
             _ => None,
         }
     }

@@ -15,6 +15,7 @@ ghost use Rattle.tree_commit.specs.Trees.{groups_of, has_group};
 
 use crate::mark_list::sum;
 use crate::models::start_at;
+use crate::row::{has_ended, runs};
 use crate::shape::Shape;
 use crate::standing::Standing;
 use anim_names::{ElementId, GroupId};
@@ -166,7 +167,7 @@ fn has_started(standing: &Standing, model: &ModelSpec) -> bool
 {
     standing.vouch();
     let state = standing.state(model.id());
-    state.runs() || state.has_ended()
+    runs(state) || has_ended(state)
 }
 
 // Whether each model at these places may start.

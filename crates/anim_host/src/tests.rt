@@ -1,7 +1,8 @@
 use super::*;
-use crate::row::{ModelRow, RunState};
+use crate::row::ModelRow;
 use crate::rows::RowTable;
 use anim_names::ModelId;
+use keyframe_effect::RunState;
 use std::alloc::AllocError;
 use std::test::Fail;
 
