@@ -1,5 +1,5 @@
 -- Which group blocks what: what a start and an end change.
-use Rattle.std.proofs.Common.{◌≡◌, ◌≢◌, ◌⊎◌, ℕ, Bool, true, false, not, ◌||◌, List, [], ◌∷◌, ◌++◌, Option, Some, None, refl, sym, ap, subst, ◌∙◌, nat_eq, cond, filter, inl, inr}
+use Rattle.std.proofs.Common.{◌≡◌, ◌≢◌, ◌⊎◌, ℕ, Bool, true, false, not, ◌||◌, List, [], ◌∷◌, ◌++◌, Option, Some, None, refl, sym, ap, ◌∙◌, cond, filter, inl, inr}
 use Rattle.std.specs.Prelude.{◌==◌, ◌&&◌, ℤ, filter_map, if◌then◌else◌}
 use Rattle.std.specs.List.{list_any, cons_option}
 use Rattle.std.proofs.lemmas.Bool.{eq-eqb, eqb-true}
@@ -60,9 +60,12 @@ group-runs marks group mark among starts alive =
 pub group-runs-by : (marks : List Mark) (group : ℕ) → is_group_running marks group ≡ true
     → (mark : Mark) × IsAmong mark marks × (starts_in group mark ≡ true) × (is_ended marks (model_of mark) ≡ false)
 group-runs-by marks group is =
-    let found = any-found (λ (k : Mark). starts_in group k && not (is_ended marks (model_of k))) marks is in
-    (found.0, found.1, and-first (starts_in group found.0) (not (is_ended marks (model_of found.0))) found.2,
-    not-true (is_ended marks (model_of found.0)) (and-second (starts_in group found.0) (not (is_ended marks (model_of found.0))) found.2))
+    let found = any-found (λ (k : Mark). starts_in group k && not (is_ended marks (model_of k))) marks is in (
+      found.0,
+      found.1,
+      and-first (starts_in group found.0) (not (is_ended marks (model_of found.0))) found.2,
+      not-true (is_ended marks (model_of found.0)) (and-second (starts_in group found.0) (not (is_ended marks (model_of found.0))) found.2),
+    )
 
 -- a running group has started
 pub running-starts : (marks : List Mark) (group : ℕ) → is_group_running marks group ≡ true → list_any (starts_in group) marks ≡ true
@@ -124,10 +127,6 @@ start-elsewhere marks id group element property at start other differ =
     let by = group-runs-by marks other is in
     group-runs (marks ++ mark ∷ []) other by.0 (among-more marks by.0 mark by.1) by.2 (alive-same marks id group element property at start (model_of by.0) ∙ by.3))
 
-
-
-
-
 -- what another group blocks stays
 pub blocks-elsewhere : (marks : List Mark) (id group element : ℕ) (property : Property) (at : ℕ) (start : ℤ) (other e : ℕ) (p : Property) → other ≢ group
     → blocks (marks ++ Started id group element property at start ∷ []) other e p ≡ blocks marks other e p
@@ -185,6 +184,7 @@ start-blocks table new marks id group element property at start stand whole aliv
         let kind : property ≡ p = property-is property p (and-second (element == e) (is_property property p) test) in
         apart ∙ sym (free g differ) ∙ ap (λ (x : ℕ). blocks marks g x property) here ∙ ap (blocks marks g e) kind
     other false test apart differ = stand g e p
+
     implied : g ≡ group → is_held_by g (blocker_of table e p) ≡ blocks marks g e p
         → is_held_by g (blocker_of table e p) ≡ list_any (λ (k : Mark). starts_in g k && starts_on e p k) marks
     implied same is =
@@ -194,10 +194,12 @@ start-blocks table new marks id group element property at start stand whole aliv
         let found = any-found (λ (k : Mark). starts_in g k && starts_on e p k) marks any in
         let begun : list_any (starts_in g) marks ≡ true = any-true (starts_in g) marks found.0 found.1 (and-first (starts_in g found.0) (starts_on e p found.0) found.2) in
         ap (is_group_running marks) same ∙ sym whole ∙ ap (λ (x : ℕ). list_any (starts_in x) marks) (sym same) ∙ begun)
+
     stand-own : g ≡ group
         → is_held_by g (blocker_of table e p) ≡ list_any (λ (k : Mark). starts_in g k && starts_on e p k) marks
         → is_held_by g (blocker_of table e p) ≡ list_any (λ (k : Mark). starts_in g k && starts_on e p k) marks
     stand-own same is = is
+
     own : (c : Bool) → (g == group) ≡ true
         → (c ≡ false → is_held_by g (blocker_of table e p) ≡ list_any (λ (k : Mark). starts_in g k && starts_on e p k) marks)
         → is_held_by g (if c then Some group else blocker_of table e p) ≡ (list_any (λ (k : Mark). starts_in g k && starts_on e p k) marks || c)
@@ -271,6 +273,7 @@ end-keeps models table marks mark model fit there of end runs stand g e p =
   where
     apart : {b : Bool} → b ≡ true → b ≡ false → ⊥
     apart {b} one two = cc
+
     before : ((k : Mark) × IsAmong k (marks ++ mark ∷ []) × (starts_in model.group k ≡ true) × (is_ended (marks ++ mark ∷ []) (model_of k) ≡ false))
         → is_group_running marks model.group ≡ true
     before by =
@@ -334,6 +337,7 @@ end-frees models table new marks mark model fit there of end still released stan
         (and-second (starts_in model.group found.0) (starts_on e p found.0) found.2) in
         sym (eq-eqb model.element e (sym here)) ∙ apart
     elsewhere false is apart = refl
+
     own : (b : Bool) → (model.element == e) ≡ b
         → is_held_by model.group (if b && is_held_by model.group (blocker_of table e p) then None else blocker_of table e p) ≡ false
     own true is = freed-own model.group (blocker_of table e p)
@@ -359,6 +363,7 @@ given-among (m ∷ marks) mark group among is =
     first : (o : Option ℕ) → o ≡ Some group → IsAmong group (cons_option o (filter_map started_group marks))
     first None is = cc
     first (Some x) is = let e : x ≡ group = cc in inl (sym e)
+
     later : (o : Option ℕ) → IsAmong group (filter_map started_group marks) → IsAmong group (cons_option o (filter_map started_group marks))
     later None there = there
     later (Some x) there = inr there
@@ -378,6 +383,7 @@ blocked-for table marks group element property stand =
     other-held : (o : Option ℕ) (h : ℕ) → not (group == h) ≡ true → is_held_by h o ≡ true → is_other group o ≡ true
     other-held None h differ is = cc
     other-held (Some x) h differ is = ap (λ (y : ℕ). not (group == y)) (sym (eqb-true h x is)) ∙ differ
+
     held : (o : Option ℕ) → blocker_of table element property ≡ o → is_other group o ≡ true → is_blocked_for marks group element property ≡ true
     held None is other = cc
     held (Some h) is other =

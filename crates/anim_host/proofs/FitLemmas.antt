@@ -1,21 +1,19 @@
 -- How the marks go with the models of the active commit: what one more mark keeps.
-use Rattle.std.proofs.Common.{◌≡◌, ◌≢◌, ◌⊎◌, ℕ, ◌+◌, ◌≤◌, Bool, true, false, not, ◌||◌, List, [], ◌∷◌, ◌++◌, length, map, Option, Some, None, refl, sym, ap, subst, ◌∙◌, nat_eq, inl, inr}
-use Rattle.std.specs.Prelude.{◌==◌, ◌&&◌, filter_map, IfSome, IsTrue}
-use Rattle.std.specs.List.{IsDistinct, AllByRecursion, list_any, cons_option}
-use Rattle.std.proofs.lemmas.Bool.{eq-eqb, eqb-true, or_cases, or_left, or_right, and_parts}
-use Rattle.std.proofs.lemmas.Bool.Decides.{eqb_tells}
+use Rattle.std.proofs.Common.{◌≡◌, ◌⊎◌, ℕ, Bool, true, false, ◌||◌, List, [], ◌∷◌, ◌++◌, map, Option, Some, None, refl, sym, ap, subst, ◌∙◌, nat_eq, inl, inr}
+use Rattle.std.specs.Prelude.{◌==◌, IfSome}
+use Rattle.std.specs.List.{IsDistinct, AllByRecursion, list_any}
+use Rattle.std.proofs.lemmas.Bool.{eq-eqb, eqb-true}
 use Rattle.std.proofs.lemmas.Map.Keys.{IsDistinct-head, IsDistinct-tail}
-use Rattle.anim_names.specs.declared.property.Property.{Property}
-use Rattle.keyframe_model.specs.Models.{Spec, property_of}
+use Rattle.keyframe_model.specs.Models.{Spec}
 use Rattle.tree_commit.specs.declared.runs.mark.Mark.{Mark}
 use Rattle.tree_commit.specs.declared.runs.mark.Mark.TheVariants.{Started, Finished, Aborted}
 use Rattle.tree_commit.specs.Follows.{Follows, IsAmong, has_mark}
-use Rattle.tree_commit.specs.Marks.{ends, is_ended, is_started, model_of, starts, starts_in}
-use Rattle.tree_commit.specs.Trees.{Committed, TreeLists, has_group}
-use Rattle.anim_host.specs.Fits.{AgreesWith, AreSettled, IsOf, IsThereIfRunning, MarksFit}
+use Rattle.tree_commit.specs.Marks.{ends, is_ended, model_of, starts_in}
+use Rattle.tree_commit.specs.Trees.{Committed, TreeLists}
+use Rattle.anim_host.specs.Fits.{AgreesWith, IsOf, IsThereIfRunning, MarksFit}
 use Rattle.anim_host.specs.States.{is_among}
 use Rattle.anim_host.proofs.AmongLemmas.{among-there}
-use Rattle.anim_host.proofs.StateLemmas.{ended-more, started-more}
+use Rattle.anim_host.proofs.StateLemmas.{ended-more}
 
 -- ---- lists
 
@@ -200,13 +198,13 @@ agrees-over : (active pending : TreeLists) (marks : List Mark) → Follows activ
     → (mark : Mark) (model : Spec) → IsAmong mark marks → IsAmong model pending.models → AgreesWith mark model
 agrees-over active pending marks follows fit (Started id group element property at start) model among there = (
   λ ids.
-  (fit.agree (Started id group element property at start) model among
-  (follows.marked model there
-  (any-true (λ (k : Mark). model.id == model_of k) marks (Started id group element property at start) among (eq-eqb model.id id (sym ids))))).0 ids,
+      (fit.agree (Started id group element property at start) model among
+      (follows.marked model there
+      (any-true (λ (k : Mark). model.id == model_of k) marks (Started id group element property at start) among (eq-eqb model.id id (sym ids))))).0 ids,
   λ groups.
-  (fit.agree (Started id group element property at start) model among
-  (follows.group_started model there
-  (any-true (starts_in model.group) marks (Started id group element property at start) among (eq-eqb model.group group (sym groups))))).1 groups,
+      (fit.agree (Started id group element property at start) model among
+      (follows.group_started model there
+      (any-true (starts_in model.group) marks (Started id group element property at start) among (eq-eqb model.group group (sym groups))))).1 groups,
 )
 agrees-over active pending marks follows fit (Finished id at) model among there = tt
 agrees-over active pending marks follows fit (Aborted id commit) model among there = tt

@@ -1,7 +1,7 @@
 -- Loops over places and ids that put marks behind the others.
-use Rattle.std.proofs.Common.{◌≡◌, ◌≢◌, ℕ, ◌+◌, ◌≤◌, ◌<◌, Bool, true, false, List, [], ◌∷◌, ◌++◌, length, map, take, drop, filter, Option, Some, None, refl, sym, ap, ◌∙◌, arith, append_assoc, cond, subst, zero, suc}
+use Rattle.std.proofs.Common.{◌≡◌, ℕ, ◌+◌, ◌≤◌, Bool, true, false, List, [], ◌∷◌, ◌++◌, length, map, drop, filter, Option, Some, refl, ap, ◌∙◌, arith, append_assoc, cond, subst, zero, suc}
 use Rattle.std.specs.Prelude.{slice_get}
-use Rattle.std.proofs.lemmas.List.{append-nil, length-append}
+use Rattle.std.proofs.lemmas.List.{length-append}
 use Rattle.std.proofs.lemmas.Option.{none-some, same_Some}
 use Rattle.keyframe_model.specs.Models.{Spec}
 use Rattle.tree_commit.specs.Trees.{Committed}
@@ -102,6 +102,7 @@ ids-tested P test (m ∷ models) so = either (test m) refl (ids-tested P test mo
         → (j id : ℕ) → slice_get (m.id ∷ rest) j ≡ Some id → P id
     here rest is others zero id found = subst P (same_Some m.id id found) (so m is)
     here rest is others (suc j) id found = others j id found
+
     either : (b : Bool) → test m ≡ b → ((j id : ℕ) → slice_get (map (λ m. m.id) (filter test models)) j ≡ Some id → P id)
         → (j id : ℕ) → slice_get (map (λ m. m.id) (cond b (m ∷ filter test models) (filter test models))) j ≡ Some id → P id
     either true is rest = here (map (λ m. m.id) (filter test models)) is rest

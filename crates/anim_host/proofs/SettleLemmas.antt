@@ -1,6 +1,6 @@
 -- The marks of whole steps: what ended had started, and groups start as a whole.
-use Rattle.std.proofs.Common.{◌≡◌, ◌≢◌, ℕ, ◌<◌, Bool, true, false, not, ◌||◌, List, [], ◌∷◌, ◌++◌, length, map, filter, Option, Some, None, refl, sym, ap, ◌∙◌, nat_eq, cond, subst, append_assoc, inl, inr, zero, suc}
-use Rattle.std.specs.Prelude.{◌==◌, ◌&&◌, slice_get, filter_map, ℤ, if◌then◌else◌}
+use Rattle.std.proofs.Common.{◌≡◌, ◌≢◌, ℕ, ◌<◌, Bool, true, false, not, ◌||◌, List, [], ◌∷◌, ◌++◌, map, filter, Option, Some, None, refl, sym, ap, ◌∙◌, cond, subst, append_assoc, inl, inr, zero, suc}
+use Rattle.std.specs.Prelude.{◌==◌, ◌&&◌, slice_get, ℤ, if◌then◌else◌}
 use Rattle.std.specs.List.{list_all, list_any, cons_option, AllByRecursion}
 use Rattle.std.proofs.lemmas.List.Elements.{filter_map-append}
 use Rattle.anim_names.specs.declared.property.Property.{Property}
@@ -318,6 +318,7 @@ over-there active new marks id there alive =
     before =
         (or-parts (is_ended marks id) (list_any (ends id) (map (λ (m : Spec). Aborted m.id new.number) (filter (is_lost new.tree marks) active.models)))
         (sym (list_any-append (ends id) marks (map (λ (m : Spec). Aborted m.id new.number) (filter (is_lost new.tree marks) active.models))) ∙ alive)).0
+
     either : (model : Spec) → IsAmong model active.models → model.id ≡ id → (b : Bool) → has_model new.tree model.id ≡ b → is_among new.tree.models id ≡ true
     either model among same true is = ap (has_model new.tree) (sym same) ∙ is
     either model among same false is =

@@ -1,6 +1,6 @@
 -- The groups of a commit with the places of their models.
-use Rattle.std.proofs.Common.{◌≡◌, ◌≢◌, ℕ, ◌+◌, ◌<◌, ◌≤◌, Bool, true, false, cond, not, ◌||◌, List, [], ◌∷◌, ◌++◌, length, map, take, drop, filter, Option, Some, None, refl, sym, ap, ◌∙◌, nat_eq, arith, append_assoc, add-one, subst, zero, suc, inl, inr}
-use Rattle.std.specs.Prelude.{option_map, is_some, filter_map, slice_get, unwrap_or, Vec, if◌then◌else◌, ◌==◌, fold}
+use Rattle.std.proofs.Common.{◌≡◌, ◌≢◌, ℕ, ◌+◌, ◌<◌, ◌≤◌, Bool, true, false, cond, ◌||◌, List, [], ◌∷◌, ◌++◌, length, map, take, drop, filter, Option, Some, None, refl, sym, ap, ◌∙◌, nat_eq, arith, add-one, subst, zero, suc, inl, inr}
+use Rattle.std.specs.Prelude.{option_map, is_some, slice_get, unwrap_or, Vec, if◌then◌else◌, ◌==◌, fold}
 use Rattle.std.specs.Prelude.{◌&&◌}
 use Rattle.std.specs.List.{list_all, list_any, cons_option, AllByRecursion}
 use Rattle.anim_host.proofs.LoopLemmas.{all-filter}
@@ -9,7 +9,7 @@ use Rattle.std.proofs.lemmas.Option.{none-some, same_Some}
 use Rattle.std.proofs.lemmas.List.Folds.{list_any-append}
 use Rattle.std.specs.Map.{lookup, set_value}
 use Rattle.std.specs.declared.alloc.Global.{Global}
-use Rattle.std.proofs.lemmas.List.{length-map, append-nil, drop_all, take_all, take-append-drop}
+use Rattle.std.proofs.lemmas.List.{length-map, append-nil, take-append-drop}
 use Rattle.std.proofs.lemmas.List.Elements.{filter-append, filter_map-append}
 use Rattle.indexmap.specs.IndexMap.{insert_entry}
 use Rattle.keyframe_model.specs.Models.{Spec}
@@ -71,9 +71,10 @@ keys-with place model [] = refl
 keys-with place model (e ∷ es) =
     elim (nat_eq model.group e.0) as (λ b.
     map (λ entry. entry.0) (if b then (e.0, e.1 ++ place ∷ []) ∷ es else e ∷ with_place place model.group es)
-    ≡ (if (b || list_any (λ group. model.group == group) (map (λ entry. entry.0) es)) then e.0 ∷ map (λ entry. entry.0) es else e.0 ∷ (map (λ entry. entry.0) es ++ model.group ∷ [])))
-    [ true ↦ refl
-    | false ↦ ap (λ rest. e.0 ∷ rest) (keys-with place model es) ∙ inside (list_any (λ group. model.group == group) (map (λ entry. entry.0) es)) ]
+    ≡ (if (b || list_any (λ group. model.group == group) (map (λ entry. entry.0) es)) then e.0 ∷ map (λ entry. entry.0) es else e.0 ∷ (map (λ entry. entry.0) es ++ model.group ∷ []))) [
+      | true ↦ refl
+      | false ↦ ap (λ rest. e.0 ∷ rest) (keys-with place model es) ∙ inside (list_any (λ group. model.group == group) (map (λ entry. entry.0) es))
+    ]
   where
     inside : (b : Bool)
         → e.0 ∷ (if b then map (λ entry. entry.0) es else map (λ entry. entry.0) es ++ model.group ∷ [])
@@ -123,6 +124,7 @@ places-with place group other (e ∷ es) =
   where
     apart : (a b : ℕ) → a ≢ b → nat_eq a b ≡ false
     apart a b differ = elim (eqb_tells a b) [ inl t ↦ absurd (differ t.1) | inr f ↦ f.0 ]
+
     here : (b : Bool)
         → unwrap_or (cond b (Some (e.1 ++ place ∷ [])) (lookup (nat_eq group) es)) []
         ≡ (if b then unwrap_or (cond b (Some e.1) (lookup (nat_eq group) es)) [] ++ place ∷ [] else unwrap_or (cond b (Some e.1) (lookup (nat_eq group) es)) [])

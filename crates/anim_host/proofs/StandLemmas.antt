@@ -1,5 +1,5 @@
 -- The rows stand for the commits and the marks: what each change of a row keeps.
-use Rattle.std.proofs.Common.{◌≡◌, ◌≢◌, ℕ, zero, suc, ◌+◌, ◌≤◌, Bool, true, false, ◌||◌, List, [], ◌∷◌, ◌++◌, length, map, take, drop, Option, Some, None, refl, sym, ap, ◌∙◌, nat_eq, add-one, inl, inr}
+use Rattle.std.proofs.Common.{◌≡◌, ◌≢◌, ℕ, ◌+◌, Bool, true, false, ◌||◌, List, [], ◌∷◌, ◌++◌, length, map, take, drop, Option, Some, None, refl, sym, ap, ◌∙◌, nat_eq, add-one, inl, inr}
 use Rattle.std.specs.Prelude.{slice_get, ◌==◌, option_map, option_and_then}
 use Rattle.std.specs.List.{IsDistinct}
 use Rattle.std.proofs.lemmas.Bool.{eq-eqb}
@@ -101,6 +101,7 @@ joined-next at new active pending marks i model found waits here others stand id
     or-none : (b : Bool) → (b || false) ≡ b
     or-none true = refl
     or-none false = refl
+
     or-fact : (a b : Bool) → b ≡ true → (a || b) ≡ true
     or-fact true b is = refl
     or-fact false b is = is

@@ -1,5 +1,5 @@
 -- How far models have come: what one more mark changes, and what a state says.
-use Rattle.std.proofs.Common.{◌≡◌, ◌≢◌, ℕ, ◌+◌, ◌≤◌, Bool, true, false, not, ◌||◌, List, [], ◌∷◌, ◌++◌, length, Option, Some, None, refl, sym, ap, ◌∙◌, cond, arith, subst, inl, inr}
+use Rattle.std.proofs.Common.{◌≡◌, ◌≢◌, ℕ, ◌+◌, ◌≤◌, Bool, true, false, not, ◌||◌, List, [], ◌∷◌, ◌++◌, length, Option, Some, None, refl, sym, ap, ◌∙◌, arith, inl, inr}
 use Rattle.std.specs.Prelude.{ℤ, is_some, if◌then◌else◌, ◌==◌, ◌&&◌}
 use Rattle.std.specs.List.{list_any}
 use Rattle.std.proofs.lemmas.List.Folds.{list_any-append}
@@ -9,20 +9,18 @@ use Rattle.std.proofs.lemmas.Bool.{eq-eqb}
 use Rattle.tree_commit.specs.declared.runs.mark.Mark.{Mark}
 use Rattle.tree_commit.specs.declared.runs.mark.Mark.TheVariants.{Started, Finished, Aborted}
 use Rattle.tree_commit.specs.declared.runs.shown.Shown.{Shown}
-use Rattle.std.specs.Prelude.{IsTrue}
 use Rattle.keyframe_model.specs.Models.{Spec}
 use Rattle.tree_commit.specs.Trees.{TreeLists}
 use Rattle.tree_commit.specs.Follows.{Follows, IsAmong, has_mark}
 use Rattle.anim_host.proofs.AmongLemmas.{among-there}
 use Rattle.tree_commit.specs.Frames.{shown_by}
 use Rattle.tree_commit.specs.Marks.{aborts, ends, is_aborted, is_ended, is_running, is_started, model_of, start_from, start_of, starts}
-use Rattle.keyframe_effect.specs.declared.state.RunState.{RunState}
 use Rattle.keyframe_effect.specs.declared.state.RunState.TheVariants as state
 use Rattle.std.specs.Prelude.{unsigned_abs, IfSome}
 use Rattle.anim_timeline.specs.declared.TheConstants.{LAST_TIME}
 use Rattle.std.proofs.lemmas.List.{append-nil}
 use Rattle.anim_host.specs.MarkLists.{StartsAreWithin, mark_if, start_in}
-use Rattle.anim_host.specs.States.{FinishesStarted, advanced, is_among, run_of, shown_at, state_from, state_of}
+use Rattle.anim_host.specs.States.{FinishesStarted, advanced, is_among, shown_at, state_from, state_of}
 use Rattle.keyframe_effect.specs.States.{is_unfinished}
 use Rattle.keyframe_effect.specs.States as effect
 use Rattle.anim_host.proofs.MarkLemmas.{start-found, start-later, start_within}
@@ -157,15 +155,15 @@ same-parts marks a e o id no_abort no_end no_start =
 
 pub state-other : (marks : List Mark) (mark : Mark) (id : ℕ) → id ≢ model_of mark → state_of (marks ++ mark ∷ []) id ≡ state_of marks id
 state-other marks (Started model group element property at start) id other =
-    let no : (id == model) ≡ false = apart id model other in
+    let differ : (id == model) ≡ false = apart id model other in
     parts marks (Started model group element property at start) id
-    ∙ same-parts marks false false (if id == model then Some start else None) id refl refl (ap (λ b. if b then Some start else None) no)
+    ∙ same-parts marks false false (if id == model then Some start else None) id refl refl (ap (λ b. if b then Some start else None) differ)
 state-other marks (Finished model at) id other =
-    let no : (id == model) ≡ false = apart id model other in
-    parts marks (Finished model at) id ∙ same-parts marks false (id == model) None id refl no refl
+    let differ : (id == model) ≡ false = apart id model other in
+    parts marks (Finished model at) id ∙ same-parts marks false (id == model) None id refl differ refl
 state-other marks (Aborted model commit) id other =
-    let no : (id == model) ≡ false = apart id model other in
-    parts marks (Aborted model commit) id ∙ same-parts marks (id == model) (id == model) None id no no refl
+    let differ : (id == model) ≡ false = apart id model other in
+    parts marks (Aborted model commit) id ∙ same-parts marks (id == model) (id == model) None id differ differ refl
 
 -- a mark about the model advances it
 pub state-here : (marks : List Mark) (mark : Mark) → FinishesStarted marks

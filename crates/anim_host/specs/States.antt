@@ -1,11 +1,11 @@
 -- How far each model has come, by the marks; and the rows that there are, by the commits and the marks.
-use Rattle.std.specs.Prelude.{◌≡◌, ℕ, ◌==◌, Bool, true, false, ◌||◌, if◌then◌else◌, ℤ, List, [], Option, Some, None}
+use Rattle.std.specs.Prelude.{◌≡◌, ℕ, ◌==◌, Bool, true, false, ℤ, List, [], Option, Some, None}
 use Rattle.std.specs.List.{list_any}
 use Rattle.keyframe_model.specs.Models.{Spec}
 use Rattle.tree_commit.specs.declared.runs.mark.Mark.{Mark}
 use Rattle.tree_commit.specs.declared.runs.mark.Mark.TheVariants.{Started, Finished, Aborted}
 use Rattle.tree_commit.specs.declared.runs.shown.Shown.{Shown}
-use Rattle.tree_commit.specs.Trees.{Committed, TreeLists}
+use Rattle.tree_commit.specs.Trees.{Committed}
 use Rattle.tree_commit.specs.Marks.{is_aborted, is_ended, is_started, start_of}
 use Rattle.anim_host.specs.declared.row.ModelRow.{ModelRow}
 use Rattle.keyframe_effect.specs.States.{after_finish}

@@ -2,8 +2,8 @@ ghost use Rattle.std.specs.Prelude.{◌≡◌, ◌≢◌, ℕ, ◌+◌, ◌≤�
 ghost use Rattle.anim_host.specs.Rows.{advanced_row, entered, joined, left, row_at, row_count};
 ghost use Rattle.tree_commit.specs.Marks.{model_of};
 
-use crate::row::{ModelRow, advanced};
 use crate::mark_list::model_of;
+use crate::row::{ModelRow, advanced};
 use anim_names::ModelId;
 use keyframe_effect::RunState;
 use slab::Slab;

@@ -137,7 +137,12 @@ impl Standing {
     }
 
     /// Whether some other group blocks the property of the element.
-    pub(crate) fn is_blocked_for(&self, group: GroupId, element: ElementId, property: Property) -> bool
+    pub(crate) fn is_blocked_for(
+        &self,
+        group: GroupId,
+        element: ElementId,
+        property: Property,
+    ) -> bool
         ensures { result ≡ is_blocked_for self.now.list.marks group element property }
     {
         match self.elements.blocked_by(element, property) {
@@ -181,7 +186,12 @@ impl Standing {
         let order = self.marks.next_order();
         let mark = started(model, at, start);
         self.rows.advance(&mark, order);
-        hold(&mut self.elements, model.element(), model.property(), model.group());
+        hold(
+            &mut self.elements,
+            model.element(),
+            model.property(),
+            model.group(),
+        );
         self.marks.push(mark);
     }
 
@@ -217,8 +227,8 @@ impl Standing {
         requires free { self.old.pending ≡ None }
         requires follows { Follows self.old.active.tree commit.now.value.tree self.old.list.marks }
         ensures ok { OnOk result (self.new ≡ record self.old {
-            pending = Some commit.now.value;
-            list = record self.old.list { room = self.new.list.room };
+          pending = Some commit.now.value;
+          list = record self.old.list { room = self.new.list.room };
         }) }
         ensures room { OnOk result (length self.new.list.marks + length self.new.active.tree.models ≤ self.new.list.room) }
         ensures err { OnErr result (self.new ≡ self.old) }

@@ -190,12 +190,7 @@ fn may_all_start(
 }
 
 // Whether nothing keeps the model from starting.
-fn may_start(
-    standing: &Standing,
-    active: &Commit,
-    next: &Option<Shape>,
-    model: &ModelSpec,
-) -> bool
+fn may_start(standing: &Standing, active: &Commit, next: &Option<Shape>, model: &ModelSpec) -> bool
     requires next { next.now ≡ option_map (λ commit. shape_of commit.tree.models) standing.now.pending }
     ensures { result ≡ may_start active.now.tree standing.now.pending standing.now.list.marks model.now }
 {

@@ -105,7 +105,13 @@ fn finish(standing: &mut Standing, active: &Commit, shape: &Shape, places: &[usi
     ensures settled { AreSettled active.now.tree.models standing.new.list.marks }
 {
     for index in 0..places.len() {
-        finish_one(standing, active, shape, active.model_at(places[index]), tick);
+        finish_one(
+            standing,
+            active,
+            shape,
+            active.model_at(places[index]),
+            tick,
+        );
     }
 }
 

@@ -1,8 +1,7 @@
-use Rattle.std.proofs.Common.{◌≡◌, ◌≢◌, ◌+◌, ◌∷◌, [], ◌++◌, ℕ, List, Some, Bool, true, false, not, ◌||◌, drop, filter, map, length, nat_eq, ap, sym, subst, refl, ◌∙◌, arith, add-one}
+use Rattle.std.proofs.Common.{◌≡◌, ◌≢◌, ◌+◌, ℕ, List, Bool, true, false, not, ◌||◌, drop, filter, map, ap, sym, subst, refl, ◌∙◌, arith, add-one}
 use Rattle.std.specs.Prelude.{◌&&◌, ◌==◌}
 use Rattle.std.proofs.lemmas.Bool.{eq-eqb}
 use Rattle.keyframe_model.specs.Models.{Spec}
-use Rattle.tree_commit.specs.declared.runs.mark.Mark.{Mark}
 use Rattle.tree_commit.specs.declared.runs.mark.Mark.TheVariants.{Aborted}
 use Rattle.tree_commit.specs.Marks.{is_ended, is_lost, is_started, marks_of_activation}
 use Rattle.tree_commit.specs.Trees.{has_element, has_model}
@@ -46,20 +45,20 @@ loop-index-preserved c =
     let is : c.abort_one.new.standing ≡ with_new now (mark_if (is_lost new.tree old.list.marks model) (Aborted model.id new.number)) =
     is_now ∙ ap (λ (b : Bool). with_new now (mark_if b (Aborted model.id new.number))) lost in (
       growing-next (λ (ms : List Spec). map (λ (m : Spec). Aborted m.id new.number) (filter (is_lost new.tree old.list.marks) ms)) models index old now
-      c.abort_one.new.standing model (mark_if (is_lost new.tree old.list.marks model) (Aborted model.id new.number))
-      c.model_at.ensures
-      (gives-if (is_lost new.tree old.list.marks) (λ (m : Spec). Aborted m.id new.number) model (drop (index + 1) models) (is_lost new.tree old.list.marks model))
-      (one-if (is_lost new.tree old.list.marks model) (Aborted model.id new.number))
-      is c.loop-index.invariant.0,
+          c.abort_one.new.standing model (mark_if (is_lost new.tree old.list.marks model) (Aborted model.id new.number))
+          c.model_at.ensures
+          (gives-if (is_lost new.tree old.list.marks) (λ (m : Spec). Aborted m.id new.number) model (drop (index + 1) models) (is_lost new.tree old.list.marks model))
+          (one-if (is_lost new.tree old.list.marks model) (Aborted model.id new.number))
+          is c.loop-index.invariant.0,
       λ id left.
-      let gone : is_among (drop (index + 1) models) model.id ≡ false =
-      ap (λ (k : ℕ). is_among (drop k models) model.id) (add-one index) ∙ apart-behind models index model c.model_count-index-end.ensures.differ c.model_at.ensures in
-      let other : id ≢ model.id = λ same_id. true-differs (is_among (drop (index + 1) models) id) (is_among (drop (index + 1) models) model.id) left gone (ap (is_among (drop (index + 1) models)) same_id) in
-      let before = c.loop-index.invariant.1 id (among-left models index model id c.model_at.ensures ∙ or-fact (id == model.id) (is_among (drop (index + 1) models) id) left) in
-      let after = abort-elsewhere now.list.marks (is_lost new.tree old.list.marks model) model.id new.number id other in (
-        ap (λ (s : Stood). is_started s.list.marks id) is ∙ after.0 ∙ before.0,
-        ap (λ (s : Stood). is_ended s.list.marks id) is ∙ after.1 ∙ before.1,
-      ),
+          let gone : is_among (drop (index + 1) models) model.id ≡ false =
+          ap (λ (k : ℕ). is_among (drop k models) model.id) (add-one index) ∙ apart-behind models index model c.model_count-index-end.ensures.differ c.model_at.ensures in
+          let other : id ≢ model.id = λ same_id. true-differs (is_among (drop (index + 1) models) id) (is_among (drop (index + 1) models) model.id) left gone (ap (is_among (drop (index + 1) models)) same_id) in
+          let before = c.loop-index.invariant.1 id (among-left models index model id c.model_at.ensures ∙ or-fact (id == model.id) (is_among (drop (index + 1) models) id) left) in
+          let after = abort-elsewhere now.list.marks (is_lost new.tree old.list.marks model) model.id new.number id other in (
+            ap (λ (s : Stood). is_started s.list.marks id) is ∙ after.0 ∙ before.0,
+            ap (λ (s : Stood). is_ended s.list.marks id) is ∙ after.1 ∙ before.1,
+          ),
     )
 
 pub returns : goal.returns

@@ -1,11 +1,9 @@
-use Rattle.std.proofs.Common.{◌≡◌, ◌≤◌, ◌+◌, ℕ, Bool, true, false, arith, ap, sym, refl, ◌∙◌}
+use Rattle.std.proofs.Common.{◌≤◌, ℕ, Bool, true, false, arith}
 use Rattle.std.specs.Prelude.{if◌then◌else◌}
-use Rattle.anim_names.specs.declared.lane.Tree.TheVariants.{Pending, Active}
-use Rattle.element_anims.specs.Elements.{Anims, is_known, is_present, room_for}
-use Rattle.element_anims.proofs.KnownLemmas.{known-present}
-use Rattle.tree_commit.specs.Trees.{has_element}
+use Rattle.anim_names.specs.declared.lane.Tree.TheVariants.{Pending}
+use Rattle.element_anims.specs.Elements.{Anims, is_known, room_for}
 use Rattle.tree_commit.specs.Views.{look_of}
-use Rattle.anim_host.proofs.ElementLemmas.{found-listed, set-next}
+use Rattle.anim_host.proofs.ElementLemmas.{set-next}
 use Rattle.anim_host.proofs.elements.announce.Goals as goal
 
 one-most : (b : Bool) → (if b then 0 else 1) ≤ 1
@@ -21,6 +19,6 @@ loop-index-preserved c =
     let used = c.set_present.ensures.room in
     let few = room-few c.loop-index.table c.element_at-element.result.0 in (
       set-next Pending c.args.commit.now.tree.elements c.loop-index.index (record { id = c.element_at-element.result.0; look = look_of c.element_at-element.result.1.now }) true
-    c.args.table.now c.loop-index.table c.set_present.new.self c.element_at-element.ensures c.set_present.ensures.set c.loop-index.invariant.0,
+          c.args.table.now c.loop-index.table c.set_present.new.self c.element_at-element.ensures c.set_present.ensures.set c.loop-index.invariant.0,
       omega arith,
     )

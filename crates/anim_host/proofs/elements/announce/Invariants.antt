@@ -1,4 +1,4 @@
-use Rattle.std.proofs.Common.{◌≡◌, ◌≤◌, ◌+◌, ℕ, true, take, length}
+use Rattle.std.proofs.Common.{◌≤◌, ◌+◌, true, take, length}
 use Rattle.anim_names.specs.declared.lane.Tree.TheVariants.{Pending}
 use Rattle.anim_host.specs.Elements.{AreSet}
 use Rattle.anim_host.proofs.elements.announce.Given as goal

@@ -1,11 +1,6 @@
-use Rattle.std.proofs.Common.{◌≡◌, ◌≤◌, ◌+◌, ℕ, Bool, true, false, arith, ap, sym, refl, ◌∙◌}
-use Rattle.std.specs.Prelude.{if◌then◌else◌}
-use Rattle.anim_names.specs.declared.lane.Tree.TheVariants.{Pending, Active}
-use Rattle.element_anims.specs.Elements.{Anims, is_known, is_present, room_for}
-use Rattle.element_anims.proofs.KnownLemmas.{known-present}
-use Rattle.tree_commit.specs.Trees.{has_element}
+use Rattle.std.proofs.Common.{false}
 use Rattle.tree_commit.specs.Views.{look_of}
-use Rattle.anim_host.proofs.ElementLemmas.{found-listed, set-next}
+use Rattle.anim_host.proofs.ElementLemmas.{set-next}
 use Rattle.anim_host.proofs.elements.dismiss.Goals as goal
 
 pub loop-index-preserved : goal.loop-index-preserved

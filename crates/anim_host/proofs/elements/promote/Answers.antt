@@ -1,7 +1,6 @@
-use Rattle.std.proofs.Common.{◌≡◌, ◌≤◌, ◌+◌, ℕ, Bool, true, false, arith, ap, sym, refl, ◌∙◌}
-use Rattle.std.specs.Prelude.{if◌then◌else◌}
+use Rattle.std.proofs.Common.{◌≡◌, true, ◌∙◌}
 use Rattle.anim_names.specs.declared.lane.Tree.TheVariants.{Pending, Active}
-use Rattle.element_anims.specs.Elements.{Anims, is_known, is_present, room_for}
+use Rattle.element_anims.specs.Elements.{is_known, is_present}
 use Rattle.element_anims.proofs.KnownLemmas.{known-present}
 use Rattle.tree_commit.specs.Trees.{has_element}
 use Rattle.tree_commit.specs.Views.{look_of}

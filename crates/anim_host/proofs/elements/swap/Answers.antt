@@ -1,4 +1,4 @@
-use Rattle.std.proofs.Common.{◌≡◌, true, false, ap, sym, ◌∙◌}
+use Rattle.std.proofs.Common.{◌∙◌}
 use Rattle.anim_names.specs.declared.lane.Tree.TheVariants.{Active, Pending}
 use Rattle.element_anims.specs.Elements.{is_present}
 use Rattle.tree_commit.specs.Trees.{has_element}

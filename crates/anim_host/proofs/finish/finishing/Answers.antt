@@ -1,4 +1,4 @@
-use Rattle.std.proofs.Common.{◌≡◌, ◌<◌, ◌+◌, ◌++◌, ◌∷◌, [], ℕ, List, Some, Bool, true, false, cond, drop, filter, length, refl, ap, sym, subst, ◌∙◌, arith}
+use Rattle.std.proofs.Common.{◌≡◌, ◌<◌, ◌+◌, ◌++◌, ◌∷◌, [], List, Bool, drop, filter, length, refl, ap, sym, subst, ◌∙◌, arith}
 use Rattle.std.specs.Prelude.{if◌then◌else◌}
 use Rattle.std.specs.List.{AllByRecursion}
 use Rattle.keyframe_model.specs.Models.{Spec}
@@ -27,10 +27,10 @@ loop-index-preserved c =
     c.in_ok-push_if.ensures ∙ ap (λ (b : Bool). items ++ (if b then index ∷ [] else [])) test_is in
     let lt : index < length models = omega arith in (
       made-next (λ (ms : List Spec). filter test ms) models index model (at_places models items) (at_places models c.push_if.new.places.items)
-      (if test model then model ∷ [] else []) _
-      c.model_at.ensures (gives-model test model (drop (index + 1) models) (test model))
-      (ap (at_places models) pushed ∙ at-pushed models items index model (test model) c.model_at.ensures)
-      c.loop-index.invariant.0,
+          (if test model then model ∷ [] else []) _
+          c.model_at.ensures (gives-model test model (drop (index + 1) models) (test model))
+          (ap (at_places models) pushed ∙ at-pushed models items index model (test model) c.model_at.ensures)
+          c.loop-index.invariant.0,
       subst (AllByRecursion (λ place. place < length models)) (sym pushed) (below-pushed (length models) index items (test model) lt c.loop-index.invariant.1),
     )
 

@@ -1,4 +1,4 @@
-use Rattle.std.proofs.Common.{◌≡◌, [], ◌∷◌, ◌++◌, List, ℕ, ap, arith, rules, ◌∙◌}
+use Rattle.std.proofs.Common.{[], ◌∷◌, ◌++◌, List, ℕ, ap, ◌∙◌}
 use Rattle.anim_host.proofs.ShapeLemmas.{with_place-first}
 use Rattle.anim_host.proofs.shape.add_first.Goals as goal
 

@@ -1,4 +1,4 @@
-use Rattle.std.proofs.Common.{◌≡◌, ℕ, List, arith, rules, ap, sym, subst, ◌∙◌, take, length}
+use Rattle.std.proofs.Common.{◌≡◌, List, arith, ap, ◌∙◌}
 use Rattle.std.proofs.lemmas.List.{take_all}
 use Rattle.keyframe_model.specs.Models.{Spec}
 use Rattle.anim_host.specs.Rows.{row_at}
@@ -18,10 +18,10 @@ loop-index-preserved c =
     let is : c.id.result ≡ model.id = c.id.ensures.value ∙ ap (λ (m : Spec). m.id) c.deref.ensures in (
       omega arith,
       λ active marks waits stand.
-      joined-next (row_at c.loop-index.rows) (row_at c.join_pending.new.self) active c.args.commit.now.tree.models marks c.loop-index.index model
-      c.model_at.ensures (waits model (found-among c.args.commit.now.tree.models c.loop-index.index model c.model_at.ensures))
-      (rw is at c.join_pending.ensures.here) (rw is at c.join_pending.ensures.others)
-      (c.loop-index.invariant.1 active marks waits stand),
+          joined-next (row_at c.loop-index.rows) (row_at c.join_pending.new.self) active c.args.commit.now.tree.models marks c.loop-index.index model
+          c.model_at.ensures (waits model (found-among c.args.commit.now.tree.models c.loop-index.index model c.model_at.ensures))
+          (rw is at c.join_pending.ensures.here) (rw is at c.join_pending.ensures.others)
+          (c.loop-index.invariant.1 active marks waits stand),
     )
 
 pub returns : goal.returns

@@ -1,4 +1,4 @@
-use Rattle.std.proofs.Common.{◌≡◌, ℕ, List, arith, rules, ap, sym, ◌∙◌, drop, length}
+use Rattle.std.proofs.Common.{◌≡◌, List, arith, ap, ◌∙◌}
 use Rattle.std.proofs.lemmas.List.{drop_all}
 use Rattle.keyframe_model.specs.Models.{Spec}
 use Rattle.anim_host.specs.Rows.{row_at}

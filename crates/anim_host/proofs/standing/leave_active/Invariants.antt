@@ -1,4 +1,4 @@
-use Rattle.std.proofs.Common.{◌≡◌, ℕ, List, [], drop}
+use Rattle.std.proofs.Common.{◌≡◌, ℕ, List, drop}
 use Rattle.anim_host.specs.Rows.{row_at}
 use Rattle.anim_host.specs.States.{row_for}
 use Rattle.keyframe_model.specs.Models.{Spec}

@@ -1,4 +1,4 @@
-use Rattle.std.proofs.Common.{◌≡◌, List, ℕ, nat_eq, ap, ◌∙◌}
+use Rattle.std.proofs.Common.{List, ℕ, nat_eq, ap, ◌∙◌}
 use Rattle.std.specs.Prelude.{is_some}
 use Rattle.std.specs.Map.{lookup}
 use Rattle.anim_host.proofs.ShapeLemmas.{shape-has}

@@ -1,4 +1,4 @@
-use Rattle.std.proofs.Common.{◌≡◌, true, ap, sym, ◌∙◌}
+use Rattle.std.proofs.Common.{ap, sym, ◌∙◌}
 use Rattle.tree_commit.specs.Marks.{is_ended, is_running}
 use Rattle.tree_commit.specs.Trees.{has_model}
 use Rattle.anim_host.proofs.AmongLemmas.{among-there}

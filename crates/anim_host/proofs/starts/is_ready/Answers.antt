@@ -1,8 +1,6 @@
-use Rattle.std.proofs.Common.{◌≡◌, ℕ, List, Bool, true, false, not, ap, sym, ◌∙◌, arith, rules}
+use Rattle.std.proofs.Common.{◌≡◌, Bool, true, not, ap, sym, ◌∙◌}
 use Rattle.std.specs.Prelude.{◌&&◌}
 use Rattle.std.specs.List.{list_all, list_any}
-use Rattle.std.proofs.lemmas.Grind.{common_steps}
-use Rattle.keyframe_model.specs.Models.{Spec}
 use Rattle.tree_commit.specs.Marks.{is_ready, may_start, starts_in}
 use Rattle.tree_commit.specs.Trees.{has_group, members_of}
 use Rattle.anim_host.proofs.ShapeLemmas.{places-members, places-within}

@@ -1,7 +1,6 @@
-use Rattle.std.proofs.Common.{◌≡◌, ℕ, List, [], Bool, true, cond, map, length, ap, sym, subst, ◌∙◌, arith}
+use Rattle.std.proofs.Common.{◌≡◌, List, [], Bool, true, map, ap, sym, subst, ◌∙◌, arith}
 use Rattle.std.specs.Prelude.{if◌then◌else◌, ◌==◌}
 use Rattle.keyframe_model.specs.Models.{Spec}
-use Rattle.tree_commit.specs.declared.runs.mark.Mark.{Mark}
 use Rattle.tree_commit.specs.Marks.{is_ready, start_mark}
 use Rattle.tree_commit.specs.Trees.{members_of}
 use Rattle.anim_host.specs.Standing.{Stood, with_new}

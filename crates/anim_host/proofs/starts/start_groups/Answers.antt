@@ -1,6 +1,6 @@
-use Rattle.std.proofs.Common.{◌≡◌, ◌≤◌, ◌+◌, ◌∷◌, ℕ, List, Some, drop, length, ap, sym, ◌∙◌, arith}
+use Rattle.std.proofs.Common.{◌≡◌, ◌≤◌, length, ap, ◌∙◌, arith}
 use Rattle.tree_commit.specs.Trees.{groups_of}
-use Rattle.anim_host.specs.MarkLists.{Marked, with_marks}
+use Rattle.anim_host.specs.MarkLists.{with_marks}
 use Rattle.anim_host.specs.Standing.{Stood}
 use Rattle.tree_commit.specs.Trees.{Committed}
 use Rattle.std.proofs.Common.{Option}

@@ -1,8 +1,7 @@
-use Rattle.std.proofs.Common.{◌≡◌, ◌≢◌, ◌+◌, ◌<◌, ◌∷◌, [], ◌++◌, ℕ, List, Option, Some, drop, get_or, map, length, ap, sym, subst, refl, ◌∙◌, arith}
+use Rattle.std.proofs.Common.{◌≡◌, ◌≢◌, ◌+◌, ◌∷◌, [], ◌++◌, ℕ, List, Option, Some, drop, get_or, map, ap, sym, subst, refl, ◌∙◌, arith}
 use Rattle.std.specs.Prelude.{slice_get, IsTrue}
 use Rattle.std.specs.List.{cons_option, list_any}
 use Rattle.std.proofs.lemmas.Option.{slice_get-get_or}
-use Rattle.anim_names.specs.declared.property.Property.{Property}
 use Rattle.keyframe_model.specs.Models.{Spec, property_of}
 use Rattle.tree_commit.specs.declared.runs.mark.Mark.{Mark}
 use Rattle.tree_commit.specs.Follows.{IsAmong}
@@ -93,21 +92,21 @@ loop-index-preserved c =
     let is : c.start_one.new.standing ≡ with_new now (mark ∷ []) = c.start_one.ensures ∙ ap (λ (m : Spec). with_new now (start_mark tree c.args.tick m ∷ [])) c.deref.ensures in
     let more : c.start_one.new.standing.list.marks ≡ marks ++ mark ∷ [] = ap (λ (s : Stood). s.list.marks) is in (
       growing-next (λ (ps : List ℕ). map (start_mark tree c.args.tick) (at_places models ps)) places index
-      c.args.standing.now now c.start_one.new.standing place (mark ∷ []) found
-      (ap (λ (o : Option Spec). map (start_mark tree c.args.tick) (cons_option o (at_places models (drop (index + 1) places)))) c.model_at.ensures)
-      (omega arith) is c.loop-index.invariant.0,
+          c.args.standing.now now c.start_one.new.standing place (mark ∷ []) found
+          (ap (λ (o : Option Spec). map (start_mark tree c.args.tick) (cons_option o (at_places models (drop (index + 1) places)))) c.model_at.ensures)
+          (omega arith) is c.loop-index.invariant.0,
       λ id.
-      ap (λ (l : List Mark). is_ended l id) more
-      ∙ alive-same marks model.id model.group model.element (property_of model) c.args.tick start id
-      ∙ c.loop-index.invariant.1 id,
+          ap (λ (l : List Mark). is_ended l id) more
+          ∙ alive-same marks model.id model.group model.element (property_of model) c.args.tick start id
+          ∙ c.loop-index.invariant.1 id,
       ap (λ (l : List Mark). list_any (starts_in c.args.group) l) more
-      ∙ subst (λ (g : ℕ). list_any (starts_in g) (marks ++ mark ∷ []) ≡ is_group_running (marks ++ mark ∷ []) g) may.own
-      (start-whole marks model.id model.group model.element (property_of model) c.args.tick start alive)
-      ∙ ap (λ (l : List Mark). is_group_running l c.args.group) (sym more),
+          ∙ subst (λ (g : ℕ). list_any (starts_in g) (marks ++ mark ∷ []) ≡ is_group_running (marks ++ mark ∷ []) g) may.own
+          (start-whole marks model.id model.group model.element (property_of model) c.args.tick start alive)
+          ∙ ap (λ (l : List Mark). is_group_running l c.args.group) (sym more),
       λ other element property differ.
-      ap (λ (l : List Mark). blocks l other element property) more
-      ∙ blocks-elsewhere marks model.id model.group model.element (property_of model) c.args.tick start other element property (λ same. differ (same ∙ may.own))
-      ∙ c.loop-index.invariant.3 other element property differ,
+          ap (λ (l : List Mark). blocks l other element property) more
+          ∙ blocks-elsewhere marks model.id model.group model.element (property_of model) c.args.tick start other element property (λ same. differ (same ∙ may.own))
+          ∙ c.loop-index.invariant.3 other element property differ,
     )
 
 pub returns : goal.returns

@@ -1,4 +1,4 @@
-use Rattle.std.proofs.Common.{◌≡◌, ◌≤◌, ◌+◌, ℕ, List, ◌∷◌, drop, length, ap, sym, ◌∙◌, arith}
+use Rattle.std.proofs.Common.{◌≡◌, ◌≤◌, ◌+◌, drop, length, ap, arith}
 use Rattle.std.proofs.lemmas.List.{drop_all}
 use Rattle.tree_commit.specs.Trees.{groups_of, members_of}
 use Rattle.anim_host.specs.MarkLists.{start_room}

@@ -1,9 +1,8 @@
-use Rattle.std.proofs.Common.{◌≡◌, ◌+◌, ◌<◌, ◌∷◌, [], ℕ, List, Option, Some, true, false, drop, get_or, map, length, ap, sym, subst, refl, ◌∙◌, arith}
+use Rattle.std.proofs.Common.{◌≡◌, ◌+◌, ◌∷◌, [], ℕ, List, Option, Some, drop, get_or, map, ap, sym, subst, refl, ◌∙◌, arith}
 use Rattle.std.specs.Prelude.{slice_get}
 use Rattle.std.specs.List.{cons_option}
 use Rattle.std.proofs.lemmas.Option.{slice_get-get_or}
 use Rattle.keyframe_model.specs.Models.{Spec}
-use Rattle.tree_commit.specs.declared.runs.mark.Mark.{Mark}
 use Rattle.tree_commit.specs.declared.runs.mark.Mark.TheVariants.{Finished}
 use Rattle.tree_commit.specs.Follows.{IsAmong}
 use Rattle.tree_commit.specs.Marks.{is_started}
@@ -13,7 +12,6 @@ use Rattle.anim_host.specs.Standing.{Stood, with_new}
 use Rattle.anim_host.proofs.AmongLemmas.{found-among}
 use Rattle.anim_host.proofs.GrowLemmas.{growing-last, growing-next, growing-start}
 use Rattle.anim_host.proofs.SettleLemmas.{at-among, settled-end}
-use Rattle.anim_host.proofs.ShapeLemmas.{below-at}
 use Rattle.anim_host.proofs.StateLemmas.{started-grows}
 use Rattle.anim_host.proofs.ticks.finish.Goals as goal
 
@@ -61,9 +59,9 @@ loop-index-preserved c =
     let is : c.finish_one.new.standing ≡ with_new now (mark ∷ []) = c.finish_one.ensures ∙ ap (λ (m : Spec). with_new now (Finished m.id c.args.tick ∷ [])) c.deref.ensures in
     let began = c.loop-index.invariant.1 model.id (c.requires.started model (at-among models places index place model found c.model_at.ensures)) in (
       growing-next (λ (ps : List ℕ). map (λ (m : Spec). Finished m.id c.args.tick) (at_places models ps)) places index
-      c.args.standing.now now c.finish_one.new.standing place (mark ∷ []) found
-      (ap (λ (o : Option Spec). map (λ (m : Spec). Finished m.id c.args.tick) (cons_option o (at_places models (drop (index + 1) places)))) c.model_at.ensures)
-      (omega arith) is c.loop-index.invariant.0,
+          c.args.standing.now now c.finish_one.new.standing place (mark ∷ []) found
+          (ap (λ (o : Option Spec). map (λ (m : Spec). Finished m.id c.args.tick) (cons_option o (at_places models (drop (index + 1) places)))) c.model_at.ensures)
+          (omega arith) is c.loop-index.invariant.0,
       λ id first. ap (λ (s : Stood). is_started s.list.marks id) is ∙ started-grows now.list.marks mark id (c.loop-index.invariant.1 id first),
       subst (λ (s : Stood). AreSettled models s.list.marks) (sym is) (settled-end models now.list.marks mark model c.loop-index.invariant.2 refl (λ group. refl) began),
     )

@@ -1,11 +1,10 @@
-use Rattle.std.proofs.Common.{◌≡◌, ◌<◌, ◌+◌, ◌≤◌, ◌∷◌, [], ◌++◌, ℕ, List, Some, Bool, true, false, Option, filter, map, length, ap, sym, subst, refl, ◌∙◌, arith}
-use Rattle.std.specs.Prelude.{slice_get, ◌&&◌}
+use Rattle.std.proofs.Common.{◌≡◌, ◌+◌, ℕ, List, Option, filter, map, length, ap, sym, subst, ◌∙◌, arith}
 use Rattle.std.proofs.lemmas.List.{length-append, length-map}
 use Rattle.keyframe_model.specs.Models.{Spec}
 use Rattle.tree_commit.specs.declared.runs.mark.Mark.{Mark}
 use Rattle.tree_commit.specs.declared.runs.mark.Mark.TheVariants.{Finished}
 use Rattle.tree_commit.specs.Follows.{IsAmong}
-use Rattle.tree_commit.specs.Marks.{are_over, finish_marks, finishing_models, is_running, is_started, marks_of_tick, start_marks}
+use Rattle.tree_commit.specs.Marks.{are_over, finish_marks, finishing_models, is_running, marks_of_tick, start_marks}
 use Rattle.tree_commit.specs.Trees.{Committed, groups_of}
 use Rattle.anim_host.specs.MarkLists.{finishes}
 use Rattle.anim_host.specs.Shapes.{at_places}

@@ -1,6 +1,5 @@
-use Rattle.std.proofs.Common.{rules, arith, ◌≡◌, ◌<◌, ◌≤◌, ◌∙◌, ap, sym}
+use Rattle.std.proofs.Common.{arith, ◌∙◌, ap}
 use Rattle.std.specs.Prelude.{IsOk}
-use Rattle.std.specs.HashMap.{spare}
 use Rattle.anim_host.specs.Rows.{Rows, row_at}
 use Rattle.anim_host.proofs.RowLemmas.{from_ok, lead-insert, others-insert}
 use Rattle.anim_host.proofs.rows.RowTable.insert.Goals as goal

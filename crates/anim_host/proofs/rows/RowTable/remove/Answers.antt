@@ -1,4 +1,4 @@
-use Rattle.std.proofs.Common.{rules, arith, ◌≡◌, ◌+◌, ◌≤◌, Some, nat_eq, ap, ◌∙◌, sym}
+use Rattle.std.proofs.Common.{arith, ◌≡◌, Some, nat_eq, ap, ◌∙◌, sym}
 use Rattle.std.specs.Prelude.{option_map}
 use Rattle.slab.specs.Slab.{slab_len}
 use Rattle.anim_host.specs.declared.row.ModelRow.{ModelRow}

@@ -1,4 +1,4 @@
-use Rattle.std.proofs.Common.{rules, arith, ap, sym, ◌∙◌, ◌≡◌, List, Option, ℕ, nat_eq}
+use Rattle.std.proofs.Common.{ap, sym, ◌∙◌, nat_eq}
 use Rattle.std.specs.Prelude.{option_and_then, option_map}
 use Rattle.std.specs.Map.{lookup}
 use Rattle.anim_host.specs.declared.row.ModelRow.{ModelRow}
@@ -8,8 +8,8 @@ use Rattle.anim_host.proofs.rows.RowTable.reserve.Goals as goal
 pub invariant_of-self-2 : goal.invariant_of-self-2
 invariant_of-self-2 c = (
   λ id place found.
-  ap (λ s. option_map (λ (row : ModelRow). row.model) (slot_at s.slots place)) c.reserve.ensures.rest_kept
-  ∙ c.self.invariant.0 id place (sym (c.reserve-2.ensures.entries.2 id) ∙ found),
+      ap (λ s. option_map (λ (row : ModelRow). row.model) (slot_at s.slots place)) c.reserve.ensures.rest_kept
+      ∙ c.self.invariant.0 id place (sym (c.reserve-2.ensures.entries.2 id) ∙ found),
   c.in_ok-reserve.ensures.room,
   c.in_ok-reserve-2.ensures.ok,
 )

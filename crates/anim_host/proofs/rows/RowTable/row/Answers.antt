@@ -1,4 +1,4 @@
-use Rattle.std.proofs.Common.{◌≡◌, Some, nat_eq, sym, ◌∙◌, ap}
+use Rattle.std.proofs.Common.{sym, ◌∙◌, ap}
 use Rattle.std.specs.Prelude.{option_map}
 use Rattle.anim_host.specs.declared.row.ModelRow.{ModelRow}
 use Rattle.anim_host.proofs.RowLemmas.{own-id}

@@ -1,4 +1,4 @@
-use Rattle.std.proofs.Common.{rules, arith, ◌≡◌, ◌≢◌, ◌+◌, ◌≤◌, ℕ, Option, Some, None, List, nat_eq, slice_set, ap, ◌∙◌, sym}
+use Rattle.std.proofs.Common.{arith, ◌≡◌, ◌≢◌, ℕ, Option, Some, None, List, nat_eq, slice_set, ap, ◌∙◌, sym}
 use Rattle.std.specs.Map.{lookup}
 use Rattle.std.proofs.lemmas.List.{get_or-set_other}
 use Rattle.anim_host.specs.declared.row.ModelRow.{ModelRow}

@@ -1,4 +1,4 @@
-use Rattle.std.proofs.Common.{◌≡◌, ◌∙◌, ap, sym, nat_eq}
+use Rattle.std.proofs.Common.{◌∙◌, ap, sym, nat_eq}
 use Rattle.std.specs.Prelude.{is_some}
 use Rattle.std.specs.Map.{lookup}
 use Rattle.anim_host.proofs.ShapeLemmas.{is_some-map, lookup-entries}

@@ -1,4 +1,4 @@
-use Rattle.std.proofs.Common.{◌≡◌, [], ◌∷◌, List, Option, ℕ, nat_eq, arith, rules, ap, sym, ◌∙◌}
+use Rattle.std.proofs.Common.{[], List, Option, ℕ, ap, sym, ◌∙◌}
 use Rattle.std.specs.Prelude.{unwrap_or, option_map, Vec}
 use Rattle.std.specs.declared.alloc.Global.{Global}
 use Rattle.anim_host.proofs.ShapeLemmas.{lookup-entries}

@@ -1,7 +1,6 @@
-use Rattle.std.proofs.Common.{◌≡◌, ◌∷◌, [], ◌++◌, ℕ, List, Bool, true, false, not, arith, ap, sym, refl, ◌∙◌, length}
+use Rattle.std.proofs.Common.{◌≡◌, ◌∷◌, [], ◌++◌, Bool, true, false, not, ap, refl, ◌∙◌}
 use Rattle.std.specs.Prelude.{option_map}
-use Rattle.tree_commit.specs.Marks.{is_group_running, model_of}
-use Rattle.anim_host.specs.Fits.{BlocksStand}
+use Rattle.tree_commit.specs.Marks.{is_group_running}
 use Rattle.anim_host.specs.MarkLists.{Marked}
 use Rattle.anim_host.specs.Rows.{row_at}
 use Rattle.anim_host.specs.States.{models_of}

@@ -1,4 +1,4 @@
-use Rattle.std.proofs.Common.{◌≡◌, ap, sym, ◌∙◌}
+use Rattle.std.proofs.Common.{ap, sym, ◌∙◌}
 use Rattle.keyframe_effect.specs.Ready.{is_other}
 use Rattle.anim_host.proofs.BlockLemmas.{blocked-for}
 use Rattle.anim_host.proofs.standing.Standing.is_blocked_for.Goals as goal

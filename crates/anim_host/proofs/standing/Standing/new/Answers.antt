@@ -1,4 +1,4 @@
-use Rattle.std.proofs.Common.{◌≡◌, [], arith, ap, sym, refl, ◌∙◌}
+use Rattle.std.proofs.Common.{◌≡◌, [], ap, sym, ◌∙◌}
 use Rattle.anim_names.specs.declared.lane.Tree.TheVariants.{Active, Pending}
 use Rattle.anim_host.specs.Fits.{is_held_by}
 use Rattle.anim_host.specs.MarkLists.{Marked}

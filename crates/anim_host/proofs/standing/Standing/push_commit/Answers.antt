@@ -1,11 +1,10 @@
-use Rattle.std.proofs.Common.{◌≡◌, List, [], ℕ, false, None, Some, Option, arith, sym, ap, subst, ◌∙◌}
+use Rattle.std.proofs.Common.{◌≡◌, List, [], ℕ, None, Option, sym, ap, subst, ◌∙◌}
 use Rattle.std.specs.Prelude.{option_map}
 use Rattle.tree_commit.specs.Trees.{Committed}
-use Rattle.tree_commit.specs.Follows.{Follows, IsAmong}
+use Rattle.tree_commit.specs.Follows.{Follows}
 use Rattle.keyframe_model.specs.Models.{Spec}
 use Rattle.anim_host.specs.Elements.{PresenceStands}
 use Rattle.anim_host.specs.MarkLists.{Marked}
-use Rattle.anim_host.specs.Rows.{row_at}
 use Rattle.anim_host.specs.States.{models_of, row_for}
 use Rattle.anim_host.proofs.ElementLemmas.{blocks-same, presence-announced, presence-same}
 use Rattle.anim_host.proofs.StateLemmas.{follows-waits}

@@ -1,8 +1,7 @@
-use Rattle.std.proofs.Common.{◌≡◌, ◌≢◌, ◌∷◌, [], ◌++◌, ℕ, List, false, arith, ap, sym, refl, to_z-of_z, ◌∙◌, length}
+use Rattle.std.proofs.Common.{◌≡◌, ◌∷◌, [], ◌++◌, ap, refl, to_z-of_z, ◌∙◌}
 use Rattle.std.specs.Prelude.{option_map, ℤ}
 use Rattle.keyframe_model.specs.Models.{property_of}
 use Rattle.tree_commit.specs.declared.runs.mark.Mark.TheVariants.{Started}
-use Rattle.tree_commit.specs.Marks.{blocks, model_of}
 use Rattle.anim_host.specs.MarkLists.{Marked}
 use Rattle.anim_host.specs.Rows.{row_at}
 use Rattle.anim_host.specs.States.{models_of}

@@ -1,4 +1,4 @@
-use Rattle.std.proofs.Common.{◌≡◌, ◌≤◌, Option, ap, sym, subst, ◌∙◌}
+use Rattle.std.proofs.Common.{◌≤◌, Option, ap, sym, subst, ◌∙◌}
 use Rattle.std.specs.Prelude.{unsigned_abs, IfSome}
 use Rattle.anim_timeline.specs.declared.TheConstants.{LAST_TIME}
 use Rattle.tree_commit.specs.declared.runs.shown.Shown.{Shown}

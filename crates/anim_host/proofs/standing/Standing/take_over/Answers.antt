@@ -1,14 +1,11 @@
-use Rattle.std.proofs.Common.{◌≡◌, List, [], ℕ, false, None, Some, Option, sym, ap, subst, ◌∙◌}
+use Rattle.std.proofs.Common.{◌≡◌, [], ℕ, None, Some, Option, sym, ap, subst, ◌∙◌}
 use Rattle.std.specs.Prelude.{option_map, IfSome}
 use Rattle.std.proofs.lemmas.Option.{same_Some}
 use Rattle.std.specs.declared.alloc.Global.{Global}
 use Rattle.std.specs.declared.sync.Arc.{Arc}
 use Rattle.tree_commit.specs.Trees.{Committed, has_element}
 use Rattle.tree_commit.specs.Follows.{Follows}
-use Rattle.keyframe_model.specs.Models.{Spec}
 use Rattle.tree_commit.specs.declared.runs.mark.Mark.{Mark}
-use Rattle.anim_names.specs.declared.lane.Tree.TheVariants.{Active, Pending}
-use Rattle.element_anims.specs.Elements.{is_present}
 use Rattle.anim_host.specs.Elements.{PresenceStands}
 use Rattle.anim_host.specs.Fits.{IsThereIfRunning}
 use Rattle.anim_host.specs.States.{models_of, row_for}
