@@ -4,24 +4,27 @@ ghost use Rattle.anim_host.specs.Hosting.{HasRoomFor, after_activation, after_pu
 ghost use Rattle.anim_host.specs.MarkLists.{StartsAreWithin, events_behind};
 ghost use Rattle.anim_timeline.specs.Timelines.{IsTime};
 ghost use Rattle.tree_commit.specs.Follows.{Follows};
+ghost use Rattle.tree_commit.specs.Trees.{empty_commit};
 
-use crate::mark_list::MarkList;
-use crate::marks::shown_by;
-use crate::steps::{abort_lost, make_tick};
+use crate::aborts::abort_lost;
+use crate::shape::Shape;
+use crate::standing::Standing;
+use crate::ticks::make_tick;
 use anim_names::{AnimEvent, ModelId};
 use std::alloc::{AllocError, Global};
 use std::marker::Model;
 use std::sync::Arc;
 use tree_commit::{Commit, Shown, StartTable};
 
-/// What the compositor keeps of its animations: the active and the pending commit, and every mark that was made.
+/// What the compositor keeps of its animations: the active and the pending commit, every mark that was made, and the
+/// tables that say quickly what these say: a row for each model of either commit, and the groups of each commit.
 ///
 /// The compositor has one, on its own thread. It does not know values, curves or frames. A contract sees a `Hosting`.
 pub struct AnimHost {
     alloc: Global,
-    active: Arc<Commit>,
-    pending: Option<Arc<Commit>>,
-    marks: MarkList,
+    standing: Standing,
+    shape: Shape,
+    next: Option<Shape>,
     last_tick: u64,
     models: u32,
 }
@@ -30,9 +33,9 @@ impl Drop for AnimHost {
     fn drop(self) {
         let AnimHost {
             alloc: _,
-            active: _active,
-            pending: _pending,
-            marks: _marks,
+            standing: _standing,
+            shape: _shape,
+            next: _next,
             last_tick: _,
             models: _,
         } = self;
@@ -40,22 +43,21 @@ impl Drop for AnimHost {
 }
 
 impl Model for AnimHost {
-    ghost use Rattle.std.specs.Prelude.{◌+◌, ◌≤◌, IfSome, length, option_map};
     ghost use Rattle.anim_host.specs.Hosting.{Hosting};
+    ghost use Rattle.anim_host.specs.Standing.{GoTogether};
 
     ghost Value = { Hosting };
 
     ghost view = { λ h. record {
-      active = h.active.value;
-      pending = option_map (λ commit. commit.value) h.pending;
-      marks = h.marks.marks;
-      cleared = h.marks.cleared;
+      active = h.standing.active;
+      pending = h.standing.pending;
+      marks = h.standing.list.marks;
+      cleared = h.standing.list.cleared;
       last_tick = h.last_tick;
       models = h.models;
     } };
 
-    ghost invariant = { λ h.
-        IfSome h.pending (λ commit. length h.marks.marks + length h.active.value.tree.models ≤ h.marks.room) };
+    ghost invariant = { λ h. GoTogether h.standing h.shape h.next };
 }
 
 impl AnimHost {
@@ -67,9 +69,9 @@ impl AnimHost {
     {
         Ok(AnimHost {
             alloc,
-            active: Commit::empty(alloc)?,
-            pending: None,
-            marks: roomy_list(alloc, models)?,
+            standing: roomy(alloc, models)?,
+            shape: Shape::empty(alloc),
+            next: None,
             last_tick: 0,
             models,
         })
@@ -83,9 +85,9 @@ impl AnimHost {
         ensures ok { OnOk result (self.new ≡ after_push self.old commit.now.value) }
         ensures err { OnErr result (self.new ≡ self.old) }
     {
-        let commit = commit.clone()?;
-        self.marks.reserve(self.active.model_count())?;
-        self.pending = Some(commit);
+        let next = Shape::of(self.alloc, commit)?;
+        self.standing.push_commit(commit)?;
+        self.next = Some(next);
         Ok(())
     }
 
@@ -96,9 +98,11 @@ impl AnimHost {
         requires pending { self.old.pending ≡ Some pending.now }
         ensures { self.new ≡ after_activation self.old pending.now }
     {
-        abort_lost(&mut self.marks, active, pending);
-        if let Some(commit) = self.pending.take() {
-            self.active = commit;
+        abort_lost(&mut self.standing, active, &self.shape, pending);
+        self.standing.vouch();
+        self.standing.take_over(pending);
+        if let Some(shape) = self.next.take() {
+            self.shape = shape;
         }
     }
 
@@ -111,7 +115,14 @@ impl AnimHost {
         ensures ok { OnOk result (self.new ≡ after_tick self.old time) }
         ensures err { OnErr result (self.new ≡ self.old) }
     {
-        make_tick(self.alloc, &mut self.marks, active, &self.pending, time)?;
+        make_tick(
+            self.alloc,
+            &mut self.standing,
+            active,
+            &self.shape,
+            &self.next,
+            time,
+        )?;
         self.last_tick = time;
         Ok(())
     }
@@ -131,14 +142,14 @@ impl AnimHost {
         ensures told { self.now.cleared ≤ length self.now.marks }
         ensures within { StartsAreWithin self.now.marks }
     {
-        self.marks.news()
+        self.standing.marks().news()
     }
 
     /// Clears the news: all marks were told.
     pub fn clear_news(&mut self)
         ensures { self.new ≡ record self.old { cleared = length self.old.marks } }
     {
-        self.marks.clear_news();
+        self.standing.clear_news();
     }
 }
 
@@ -146,20 +157,17 @@ impl StartTable for AnimHost {
     ghost starts = { λ host id. shown_in host id };
 
     fn shown(&self, model: ModelId) -> Option<Shown> {
-        if self.active.has_model(model) {
-            shown_by(self.marks.marks(), model)
-        } else {
-            None
-        }
+        self.standing.shown(model)
     }
 }
 
-// A list of marks with room for two for each model.
-fn roomy_list(alloc: Global, models: u32) -> Result<MarkList, AllocError>
+// Commit 0, no marks, and room for two for each model.
+fn roomy(alloc: Global, models: u32) -> Result<Standing, AllocError>
     requires { models ≤ MOST_HOSTED }
-    ensures empty { IfOk result (λ list. (list.marks ≡ []) × (list.cleared ≡ 0)) }
+    ensures stood { IfOk result (λ stood. (stood.active ≡ empty_commit)
+        × (stood.pending ≡ None) × (stood.list.marks ≡ []) × (stood.list.cleared ≡ 0)) }
 {
-    let mut list = MarkList::new(alloc);
-    list.reserve(2 * models as usize)?;
-    Ok(list)
+    let mut standing = Standing::new(alloc)?;
+    standing.reserve(2 * models as usize)?;
+    Ok(standing)
 }

@@ -1,17 +1,25 @@
 //! The compositor's host: which keyframe models start, finish and are aborted, and when.
 //!
 //! To the layer above it promises that the marks that a tick and an activation make are exactly those of the
-//! definitions, and that what it shows of a model is read off its marks. It keeps the commits as they are and all
-//! marks, and works everything out from these. It knows neither curves nor frames.
+//! definitions, and that what it shows of a model is read off its marks. It keeps one row for each model of its two
+//! commits, the groups of each commit, and a table of elements, and these stand for the commits and the marks after
+//! every mark. It knows neither curves nor frames.
 #![tactic(auto)]
 
-mod groups;
+mod aborts;
+mod elements;
+mod ends;
+mod finish;
 mod host;
 pub mod laws;
 mod mark_list;
-mod marks;
 mod models;
-mod steps;
+mod row;
+mod rows;
+mod shape;
+mod standing;
+mod starts;
+mod ticks;
 
 pub use host::AnimHost;
 

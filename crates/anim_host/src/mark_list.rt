@@ -1,10 +1,10 @@
 ghost use Rattle.std.specs.Prelude.{◌≡◌, ◌+◌, ◌<◌, ◌≤◌, [], ◌∷◌, length, take, OnOk, OnErr, IfOk};
 ghost use Rattle.anim_host.specs.declared.TheConstants.{MOST_MARKS};
 ghost use Rattle.anim_host.specs.MarkLists.{StartIsWithin, StartsAreWithin, events_behind, mark_if, with_marks};
-ghost use Rattle.tree_commit.specs.Marks.{event_of};
+ghost use Rattle.tree_commit.specs.Marks.{event_of, model_of};
 
 use crate::MOST_MARKS;
-use anim_names::AnimEvent;
+use anim_names::{AnimEvent, ModelId};
 use std::alloc::{AllocError, Global};
 use std::marker::Model;
 use tree_commit::Mark;
@@ -78,6 +78,14 @@ impl MarkList {
         ensures { result ≡ length self.now.marks }
     {
         self.marks.len()
+    }
+
+    /// The index of the next mark.
+    pub(crate) fn next_order(&self) -> u32
+        requires { length self.now.marks < self.now.room }
+        ensures { result ≡ length self.now.marks }
+    {
+        self.marks.len() as u32
     }
 
     /// The first so many marks.
@@ -191,5 +199,16 @@ fn event_of(mark: &Mark) -> AnimEvent
         },
         Mark::Finished { model, at } => AnimEvent::Finished { model, at },
         Mark::Aborted { model, commit } => AnimEvent::Aborted { model, commit },
+    }
+}
+
+/// The model that the mark is about.
+pub(crate) fn model_of(mark: &Mark) -> ModelId
+    ensures { result ≡ model_of mark.now }
+{
+    match *mark {
+        Mark::Started { model, .. } => model,
+        Mark::Finished { model, .. } => model,
+        Mark::Aborted { model, .. } => model,
     }
 }

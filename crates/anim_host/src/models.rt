@@ -1,54 +1,15 @@
 //! What is asked of one keyframe model, by a commit and the marks.
 
-ghost use Rattle.std.specs.Prelude.{◌≡◌, ◌≤◌, ◌-ℤ◌, unsigned_abs, IsTrue, IfSome, option_map};
-ghost use Rattle.anim_host.specs.MarkLists.{StartIsWithin};
+ghost use Rattle.std.specs.Prelude.{◌≡◌, ◌≤◌, ◌-ℤ◌, unsigned_abs, IsTrue, IfSome};
 ghost use Rattle.anim_timeline.specs.declared.TheConstants.{LAST_TIME};
 ghost use Rattle.anim_timeline.specs.Timelines.{IsTime};
 ghost use Rattle.micro_time.specs.Timings.{is_done};
-ghost use Rattle.tree_commit.specs.Marks.{is_lost, is_over, may_start, pending_allows, recorded_start, start_mark};
+ghost use Rattle.tree_commit.specs.Marks.{is_over, recorded_start};
 ghost use Rattle.tree_commit.specs.Tables.{has_timeline};
 ghost use Rattle.tree_commit.specs.Trees.{time_of};
 
-use crate::groups::has_group;
-use crate::marks::{is_blocked_for, is_ended, is_started};
-use anim_names::{ElementId, GroupId};
 use keyframe_model::ModelSpec;
-use std::sync::Arc;
-use tree_commit::{Commit, Mark, Shown};
-
-/// Whether nothing keeps the model from starting.
-pub(crate) fn may_start(
-    active: &Commit,
-    pending: &Option<Arc<Commit>>,
-    marks: &[Mark],
-    model: &ModelSpec,
-) -> bool
-    ensures { result ≡ may_start active.now.tree (option_map (λ commit. commit.value) pending.now) marks.now model.now }
-{
-    let (group, element) = (model.group(), model.element());
-    active.has_element(element)
-        && pending_allows(pending, group, element)
-        && !is_blocked_for(marks, group, element, model.property())
-}
-
-// Whether a pending commit that has a model of the group has the element too.
-fn pending_allows(pending: &Option<Arc<Commit>>, group: GroupId, element: ElementId) -> bool
-    ensures { result ≡ pending_allows (option_map (λ commit. commit.value) pending.now) group element }
-{
-    match pending {
-        None => true,
-        Some(commit) => !has_group(commit, group) || commit.has_element(element),
-    }
-}
-
-/// Whether the model is aborted as this commit becomes active.
-pub(crate) fn is_lost(new: &Commit, marks: &[Mark], model: &ModelSpec) -> bool
-    ensures { result ≡ is_lost new.now.tree marks.now model.now }
-{
-    let id = model.id();
-    !is_ended(marks, id)
-        && (!new.has_model(id) || (is_started(marks, id) && !new.has_element(model.element())))
-}
+use tree_commit::{Commit, Shown};
 
 /// Whether the model is done at the tick, by the start that was recorded for it.
 pub(crate) fn is_over(active: &Commit, model: &ModelSpec, tick: u64, shown: Option<Shown>) -> bool
@@ -72,21 +33,15 @@ fn is_done_since(model: &ModelSpec, time: i64, start: i64) -> bool
     model.is_done(time - start)
 }
 
-/// The mark of the model's start at the tick.
-pub(crate) fn start_mark(active: &Commit, model: &ModelSpec, tick: u64) -> Mark
+/// The start to record for the model at the tick.
+pub(crate) fn start_at(active: &Commit, model: &ModelSpec, tick: u64) -> i64
     requires timeline_there { IsTrue (has_timeline active.now.tree model.now.timeline) }
     requires in_time { IsTime tick }
-    ensures mark { result ≡ start_mark active.now.tree tick model.now }
-    ensures within { StartIsWithin result }
+    ensures start { result ≡ recorded_start model.now.start (time_of active.now.tree tick model.now) }
+    ensures within { unsigned_abs result ≤ LAST_TIME }
 {
-    Mark::Started {
-        model: model.id(),
-        group: model.group(),
-        element: model.element(),
-        property: model.property(),
-        at: tick,
-        start: recorded_start(model.start(), time_of(active, model, tick)),
-    }
+    let _ = model.id();
+    recorded_start(model.start(), time_of(active, model, tick))
 }
 
 // The start to record: the given one, else what the timeline shows.

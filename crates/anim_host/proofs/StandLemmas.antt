@@ -1,0 +1,228 @@
+-- The rows stand for the commits and the marks: what each change of a row keeps.
+use Rattle.std.proofs.Common.{◌≡◌, ◌≢◌, ℕ, ◌+◌, Bool, true, false, ◌||◌, List, [], ◌∷◌, ◌++◌, length, map, take, drop, Option, Some, None, refl, sym, ap, ◌∙◌, nat_eq, add-one, inl, inr}
+use Rattle.std.specs.Prelude.{slice_get, ◌==◌, option_map, option_and_then}
+use Rattle.std.specs.List.{IsDistinct}
+use Rattle.std.proofs.lemmas.Bool.{eq-eqb}
+use Rattle.std.proofs.lemmas.Bool.Decides.{eqb_tells}
+use Rattle.std.proofs.lemmas.Option.{none-some, same_Some}
+use Rattle.keyframe_model.specs.Models.{Spec}
+use Rattle.tree_commit.specs.declared.runs.mark.Mark.{Mark}
+use Rattle.tree_commit.specs.Marks.{model_of}
+use Rattle.anim_host.specs.declared.row.ModelRow.{ModelRow}
+use Rattle.keyframe_effect.specs.declared.state.RunState.TheVariants as state
+use Rattle.anim_host.specs.Rows.{advanced_row, entered, joined, left}
+use Rattle.anim_host.specs.States.{FinishesStarted, advanced, is_among, row_for, row_if, state_of}
+use Rattle.anim_host.proofs.AmongLemmas.{among-left, among-taken, apart-before, apart-behind}
+use Rattle.anim_host.proofs.StateLemmas.{state-here, state-other}
+
+-- ---- one row
+
+row-same : (active pending : Bool) (marks more : List Mark) (id : ℕ) → state_of more id ≡ state_of marks id
+    → row_if active pending marks id ≡ row_if active pending more id
+row-same false false marks more id same = refl
+row-same false true marks more id same = ap (λ s. Some (record { model = id; state = s; in_active = false; in_pending = true })) (sym same)
+row-same true pending marks more id same = ap (λ s. Some (record { model = id; state = s; in_active = true; in_pending = pending })) (sym same)
+
+row-advanced : (active pending : Bool) (marks more : List Mark) (mark : Mark) (order id : ℕ)
+    → state_of more id ≡ advanced (state_of marks id) mark order
+    → option_map (advanced_row mark order) (row_if active pending marks id) ≡ row_if active pending more id
+row-advanced false false marks more mark order id next = refl
+row-advanced false true marks more mark order id next = ap (λ s. Some (record { model = id; state = s; in_active = false; in_pending = true })) (sym next)
+row-advanced true pending marks more mark order id next = ap (λ s. Some (record { model = id; state = s; in_active = true; in_pending = pending })) (sym next)
+
+row-joined : (active pending : Bool) (marks : List Mark) (id : ℕ)
+    → (active ≡ false → state_of marks id ≡ state.Waiting)
+    → Some (joined id (row_if active pending marks id)) ≡ row_if active true marks id
+row-joined true pending marks id waits = refl
+row-joined false true marks id waits = refl
+row-joined false false marks id waits = ap (λ s. Some (record { model = id; state = s; in_active = false; in_pending = true })) (sym (waits refl))
+
+row-left : (pending : Bool) (marks : List Mark) (id : ℕ) → option_and_then left (row_if true pending marks id) ≡ row_if false pending marks id
+row-left true marks id = refl
+row-left false marks id = refl
+
+-- ---- all rows
+
+-- one more mark
+pub advanced-next : (at new : ℕ → Option ModelRow) (active pending : List Spec) (marks : List Mark) (mark : Mark)
+    → ((id : ℕ) → at id ≡ row_for active pending marks id)
+    → FinishesStarted marks
+    → new (model_of mark) ≡ option_map (advanced_row mark (length marks)) (at (model_of mark))
+    → ((id : ℕ) → id ≢ model_of mark → new id ≡ at id)
+    → (id : ℕ) → new id ≡ row_for active pending (marks ++ mark ∷ []) id
+unfolding row_for
+advanced-next at new active pending marks mark stand fits here others id =
+    elim (eqb_tells id (model_of mark)) [
+      | inl t ↦
+          let it = model_of mark in
+          ap new t.1
+          ∙ here
+          ∙ ap (option_map (advanced_row mark (length marks))) (stand (model_of mark))
+          ∙ row-advanced (is_among active (model_of mark)) (is_among pending (model_of mark)) marks (marks ++ mark ∷ []) mark (length marks) (model_of mark)
+          (state-here marks mark fits)
+          ∙ ap (λ (n : ℕ). row_if (is_among active n) (is_among pending n) (marks ++ mark ∷ []) n) (sym t.1)
+      | inr f ↦
+          others id f.1
+          ∙ stand id
+          ∙ row-same (is_among active id) (is_among pending id) marks (marks ++ mark ∷ []) id (state-other marks mark id f.1)
+    ]
+
+-- one more model of the pending commit
+pub joined-next : (at new : ℕ → Option ModelRow) (active pending : List Spec) (marks : List Mark) (i : ℕ) (model : Spec)
+    → slice_get pending i ≡ Some model
+    → (is_among active model.id ≡ false → state_of marks model.id ≡ state.Waiting)
+    → new model.id ≡ Some (joined model.id (at model.id))
+    → ((id : ℕ) → id ≢ model.id → new id ≡ at id)
+    → ((id : ℕ) → at id ≡ row_for active (take i pending) marks id)
+    → (id : ℕ) → new id ≡ row_for active (take (i + 1) pending) marks id
+unfolding row_for
+joined-next at new active pending marks i model found waits here others stand id =
+    elim (eqb_tells id model.id) [
+      | inl t ↦
+          let there : is_among (take (i + 1) pending) model.id ≡ true =
+          ap (λ (k : ℕ). is_among (take k pending) model.id) (add-one i)
+          ∙ among-taken pending i model model.id found
+          ∙ or-fact (is_among (take i pending) model.id) (model.id == model.id) (eq-eqb model.id model.id refl) in
+          ap new t.1
+          ∙ here
+          ∙ ap (λ (o : Option ModelRow). Some (joined model.id o)) (stand model.id)
+          ∙ row-joined (is_among active model.id) (is_among (take i pending) model.id) marks model.id waits
+          ∙ ap (λ (b : Bool). row_if (is_among active model.id) b marks model.id) (sym there)
+          ∙ ap (λ (n : ℕ). row_if (is_among active n) (is_among (take (i + 1) pending) n) marks n) (sym t.1)
+      | inr f ↦
+          let same : is_among (take (i + 1) pending) id ≡ is_among (take i pending) id =
+          ap (λ (k : ℕ). is_among (take k pending) id) (add-one i)
+          ∙ among-taken pending i model id found
+          ∙ ap (λ b. is_among (take i pending) id || b) f.0
+          ∙ or-none (is_among (take i pending) id) in
+          others id f.1 ∙ stand id ∙ ap (λ (b : Bool). row_if (is_among active id) b marks id) (sym same)
+    ]
+  where
+    or-none : (b : Bool) → (b || false) ≡ b
+    or-none true = refl
+    or-none false = refl
+
+    or-fact : (a b : Bool) → b ≡ true → (a || b) ≡ true
+    or-fact true b is = refl
+    or-fact false b is = is
+
+-- one fewer model of the active commit
+pub left-next : (at new : ℕ → Option ModelRow) (active pending : List Spec) (marks : List Mark) (i : ℕ) (model : Spec)
+    → IsDistinct nat_eq (map (λ model. model.id) active)
+    → slice_get active i ≡ Some model
+    → new model.id ≡ option_and_then left (at model.id)
+    → ((id : ℕ) → id ≢ model.id → new id ≡ at id)
+    → ((id : ℕ) → at id ≡ row_for (drop i active) pending marks id)
+    → (id : ℕ) → new id ≡ row_for (drop (i + 1) active) pending marks id
+unfolding row_for
+left-next at new active pending marks i model differ found here others stand id =
+    elim (eqb_tells id model.id) [
+      | inl t ↦
+          let was : is_among (drop i active) model.id ≡ true =
+          among-left active i model model.id found
+          ∙ ap (λ b. b || is_among (drop (i + 1) active) model.id) (eq-eqb model.id model.id refl) in
+          let gone : is_among (drop (i + 1) active) model.id ≡ false =
+          ap (λ (k : ℕ). is_among (drop k active) model.id) (add-one i) ∙ apart-behind active i model differ found in
+          ap new t.1
+          ∙ here
+          ∙ ap (option_and_then left) (stand model.id)
+          ∙ ap (λ (b : Bool). option_and_then left (row_if b (is_among pending model.id) marks model.id)) was
+          ∙ row-left (is_among pending model.id) marks model.id
+          ∙ ap (λ (b : Bool). row_if b (is_among pending model.id) marks model.id) (sym gone)
+          ∙ ap (λ (n : ℕ). row_if (is_among (drop (i + 1) active) n) (is_among pending n) marks n) (sym t.1)
+      | inr f ↦
+          let same : is_among (drop i active) id ≡ is_among (drop (i + 1) active) id =
+          among-left active i model id found ∙ ap (λ b. b || is_among (drop (i + 1) active) id) f.0 in
+          others id f.1 ∙ stand id ∙ ap (λ (b : Bool). row_if b (is_among pending id) marks id) same
+    ]
+
+-- one more model of the new commit is in the active one instead
+pub entered-next : (at new : ℕ → Option ModelRow) (models : List Spec) (marks : List Mark) (i : ℕ) (model : Spec)
+    → IsDistinct nat_eq (map (λ model. model.id) models)
+    → slice_get models i ≡ Some model
+    → new model.id ≡ option_map entered (at model.id)
+    → ((id : ℕ) → id ≢ model.id → new id ≡ at id)
+    → ((id : ℕ) → at id ≡ row_for (take i models) (drop i models) marks id)
+    → (id : ℕ) → new id ≡ row_for (take (i + 1) models) (drop (i + 1) models) marks id
+unfolding row_for
+entered-next at new models marks i model differ found here others stand id =
+    elim (eqb_tells id model.id) [
+      | inl t ↦
+          let before : is_among (take i models) model.id ≡ false = apart-before models i model differ found in
+          let was : is_among (drop i models) model.id ≡ true =
+          among-left models i model model.id found
+          ∙ ap (λ b. b || is_among (drop (i + 1) models) model.id) (eq-eqb model.id model.id refl) in
+          let gone : is_among (drop (i + 1) models) model.id ≡ false =
+          ap (λ (k : ℕ). is_among (drop k models) model.id) (add-one i) ∙ apart-behind models i model differ found in
+          let now : is_among (take (i + 1) models) model.id ≡ true =
+          ap (λ (k : ℕ). is_among (take k models) model.id) (add-one i)
+          ∙ among-taken models i model model.id found
+          ∙ ap (λ b. b || (model.id == model.id)) before
+          ∙ eq-eqb model.id model.id refl in
+          ap new t.1
+          ∙ here
+          ∙ ap (option_map entered) (stand model.id)
+          ∙ ap (λ (b : Bool). option_map entered (row_if b (is_among (drop i models) model.id) marks model.id)) before
+          ∙ ap (λ (b : Bool). option_map entered (row_if false b marks model.id)) was
+          ∙ ap (λ (b : Bool). row_if true b marks model.id) (sym gone)
+          ∙ ap (λ (b : Bool). row_if b (is_among (drop (i + 1) models) model.id) marks model.id) (sym now)
+          ∙ ap (λ (n : ℕ). row_if (is_among (take (i + 1) models) n) (is_among (drop (i + 1) models) n) marks n) (sym t.1)
+      | inr f ↦
+          let left : is_among (drop i models) id ≡ is_among (drop (i + 1) models) id =
+          among-left models i model id found ∙ ap (λ b. b || is_among (drop (i + 1) models) id) f.0 in
+          let taken : is_among (take (i + 1) models) id ≡ is_among (take i models) id =
+          ap (λ (k : ℕ). is_among (take k models) id) (add-one i)
+          ∙ among-taken models i model id found
+          ∙ ap (λ b. is_among (take i models) id || b) f.0
+          ∙ or-none (is_among (take i models) id) in
+          others id f.1
+          ∙ stand id
+          ∙ ap (λ (b : Bool). row_if (is_among (take i models) id) b marks id) left
+          ∙ ap (λ (b : Bool). row_if b (is_among (drop (i + 1) models) id) marks id) (sym taken)
+    ]
+  where
+    or-none : (b : Bool) → (b || false) ≡ b
+    or-none true = refl
+    or-none false = refl
+
+-- ---- what a row says
+
+read-state : (active pending : Bool) (marks : List Mark) (id : ℕ) (row : ModelRow)
+    → Some row ≡ row_if active pending marks id → row.state ≡ state_of marks id
+read-state false false marks id row is = absurd (none-some row (sym is))
+read-state false true marks id row is = ap (λ r. r.state) (same_Some _ _ is)
+read-state true pending marks id row is = ap (λ r. r.state) (same_Some _ _ is)
+
+read-active : (active pending : Bool) (marks : List Mark) (id : ℕ) (row : ModelRow)
+    → Some row ≡ row_if active pending marks id → row.in_active ≡ active
+read-active false false marks id row is = absurd (none-some row (sym is))
+read-active false true marks id row is = ap (λ r. r.in_active) (same_Some _ _ is)
+read-active true pending marks id row is = ap (λ r. r.in_active) (same_Some _ _ is)
+
+read-none : (active pending : Bool) (marks : List Mark) (id : ℕ) → None ≡ row_if active pending marks id → active ≡ false
+read-none false false marks id is = refl
+read-none false true marks id is = absurd (none-some _ is)
+read-none true pending marks id is = absurd (none-some _ is)
+
+-- a row says what the marks say
+pub row-state : (active pending : List Spec) (marks : List Mark) (id : ℕ) (row : ModelRow)
+    → Some row ≡ row_for active pending marks id → row.state ≡ state_of marks id
+unfolding row_for
+row-state active pending marks id row is = read-state (is_among active id) (is_among pending id) marks id row is
+
+-- and whether its model is in the active commit
+pub row-active : (active pending : List Spec) (marks : List Mark) (id : ℕ) (row : ModelRow)
+    → Some row ≡ row_for active pending marks id → row.in_active ≡ is_among active id
+unfolding row_for
+row-active active pending marks id row is = read-active (is_among active id) (is_among pending id) marks id row is
+
+-- a model with no row is not in the active commit
+pub row-none : (active pending : List Spec) (marks : List Mark) (id : ℕ)
+    → None ≡ row_for active pending marks id → is_among active id ≡ false
+unfolding row_for
+row-none active pending marks id is = read-none (is_among active id) (is_among pending id) marks id is
+
+-- no row where there is no model
+pub row-nowhere : (marks : List Mark) (id : ℕ) → row_for [] [] marks id ≡ None
+unfolding row_for
+row-nowhere marks id = refl

@@ -1,0 +1,40 @@
+use Rattle.std.proofs.Common.{◌+◌, ℕ, List, true, cond, drop, filter, get_or, ap, sym, subst, ◌∙◌, arith}
+use Rattle.std.specs.Prelude.{◌&&◌, IsTrue}
+use Rattle.std.specs.List.{list_all}
+use Rattle.std.proofs.lemmas.Option.{slice_get-get_or}
+use Rattle.keyframe_model.specs.Models.{Spec}
+use Rattle.tree_commit.specs.Marks.{is_over, is_running, start_of}
+use Rattle.tree_commit.specs.Tables.{has_timeline}
+use Rattle.tree_commit.specs.Trees.{has_model}
+use Rattle.anim_host.specs.Shapes.{at_places}
+use Rattle.anim_host.proofs.AmongLemmas.{all-at, found-there}
+use Rattle.anim_host.proofs.LoopLemmas.{all-next}
+use Rattle.anim_host.proofs.ShapeLemmas.{all-places}
+use Rattle.anim_host.proofs.finish.are_over.Goals as goal
+
+pub is_over_or_still-over-requires-clause-there : goal.is_over_or_still-over-requires-clause-there
+is_over_or_still-over-requires-clause-there c =
+    ap (λ (m : Spec). has_model c.args.active.now.tree m.id) c.deref.ensures
+    ∙ found-there c.args.active.now.tree.models (get_or c.args.places.now c.loop-index.index 0) c.model_at.result.now.value c.model_at.ensures
+
+pub is_over_or_still-over-requires-clause-timeline_there : goal.is_over_or_still-over-requires-clause-timeline_there
+is_over_or_still-over-requires-clause-timeline_there c =
+    subst (λ (m : Spec). IsTrue (has_timeline c.args.active.now.tree m.timeline)) (sym c.deref.ensures)
+    (all-at (λ (m : Spec). IsTrue (has_timeline c.args.active.now.tree m.timeline)) c.args.active.now.tree.models
+    (get_or c.args.places.now c.loop-index.index 0) c.model_at.result.now.value c.requires.timelines_there c.model_at.ensures)
+
+pub loop-index-preserved : goal.loop-index-preserved
+loop-index-preserved c =
+    let marks = c.args.standing.now.list.marks in
+    let models = c.args.active.now.tree.models in
+    let places = c.args.places.now in
+    let index = c.loop-index.index in
+    let place = get_or places index 0 in
+    let model = c.model_at.result.now.value in
+    let passes = λ (m : Spec). is_over c.args.active.now.tree c.args.tick m (start_of marks m.id) in
+    let runs = λ (m : Spec). is_running marks m.id in
+    all-next (λ (ps : List ℕ). list_all passes (filter runs (at_places models ps))) places index place c.loop-index.over _
+    (cond (runs model) (passes model) true) _
+    (slice_get-get_or places index 0 (omega arith))
+    (all-places models runs passes place (drop (index + 1) places) model c.model_at.ensures)
+    (ap (λ b. c.loop-index.over && b) (rw c.deref.ensures at c.is_over_or_still-over.ensures)) c.loop-index.invariant

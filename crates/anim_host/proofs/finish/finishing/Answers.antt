@@ -1,0 +1,40 @@
+use Rattle.std.proofs.Common.{◌≡◌, ◌<◌, ◌+◌, ◌++◌, ◌∷◌, [], List, Bool, drop, filter, length, refl, ap, sym, subst, ◌∙◌, arith}
+use Rattle.std.specs.Prelude.{if◌then◌else◌}
+use Rattle.std.specs.List.{AllByRecursion}
+use Rattle.keyframe_model.specs.Models.{Spec}
+use Rattle.tree_commit.specs.Trees.{has_model}
+use Rattle.anim_host.specs.MarkLists.{finishes}
+use Rattle.anim_host.specs.Shapes.{at_places}
+use Rattle.anim_host.proofs.AmongLemmas.{found-there}
+use Rattle.anim_host.proofs.LoopLemmas.{made-last, made-next}
+use Rattle.anim_host.proofs.SettleLemmas.{at-pushed, below-pushed, gives-model}
+use Rattle.anim_host.proofs.finish.finishing.Goals as goal
+
+pub finishes-is_finished-requires-clause-there : goal.finishes-is_finished-requires-clause-there
+finishes-is_finished-requires-clause-there c =
+    ap (λ (m : Spec). has_model c.args.active.now.tree m.id) c.deref.ensures
+    ∙ found-there c.args.active.now.tree.models c.loop-index.index c.model_at.result.now.value c.model_at.ensures
+
+pub loop-index-preserved : goal.loop-index-preserved
+loop-index-preserved c =
+    let models = c.args.active.now.tree.models in
+    let index = c.loop-index.index in
+    let model = c.model_at.result.now.value in
+    let test = finishes c.args.active.now.tree c.args.standing.now.list.marks c.args.tick in
+    let items = c.loop-index.places.items in
+    let test_is : c.finishes-is_finished.result ≡ test model = c.finishes-is_finished.ensures ∙ ap test c.deref.ensures in
+    let pushed : c.push_if.new.places.items ≡ items ++ (if test model then index ∷ [] else []) =
+    c.in_ok-push_if.ensures ∙ ap (λ (b : Bool). items ++ (if b then index ∷ [] else [])) test_is in
+    let lt : index < length models = omega arith in (
+      made-next (λ (ms : List Spec). filter test ms) models index model (at_places models items) (at_places models c.push_if.new.places.items)
+          (if test model then model ∷ [] else []) _
+          c.model_at.ensures (gives-model test model (drop (index + 1) models) (test model))
+          (ap (at_places models) pushed ∙ at-pushed models items index model (test model) c.model_at.ensures)
+          c.loop-index.invariant.0,
+      subst (AllByRecursion (λ place. place < length models)) (sym pushed) (below-pushed (length models) index items (test model) lt c.loop-index.invariant.1),
+    )
+
+pub returns-clause-models : goal.returns-clause-models
+returns-clause-models c =
+    made-last (λ (ms : List Spec). filter (finishes c.args.active.now.tree c.args.standing.now.list.marks c.args.tick) ms)
+    c.args.active.now.tree.models c.loop-index.index (at_places c.args.active.now.tree.models c.loop-index.places.items) _ (omega arith) refl c.loop-index.invariant.0

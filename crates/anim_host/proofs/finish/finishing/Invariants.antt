@@ -1,0 +1,13 @@
+use Rattle.std.proofs.Common.{◌≡◌, ◌<◌, ◌++◌, drop, filter, length}
+use Rattle.std.specs.List.{AllByRecursion}
+use Rattle.tree_commit.specs.Marks.{finishing_models}
+use Rattle.anim_host.specs.MarkLists.{finishes}
+use Rattle.anim_host.specs.Shapes.{at_places}
+use Rattle.anim_host.proofs.finish.finishing.Given as goal
+
+abbrev pub invariant-loop-index : goal.invariant-loop-index
+invariant-loop-index l =
+    (at_places l.active.tree.models l.places.items
+    ++ filter (finishes l.active.tree l.standing.list.marks l.tick) (drop l.index l.active.tree.models)
+    ≡ finishing_models l.active.tree l.standing.list.marks l.tick)
+    × AllByRecursion (λ place. place < length l.active.tree.models) l.places.items

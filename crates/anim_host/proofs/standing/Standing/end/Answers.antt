@@ -1,0 +1,48 @@
+use Rattle.std.proofs.Common.{◌≡◌, ◌∷◌, [], ◌++◌, Bool, true, false, not, ap, refl, ◌∙◌}
+use Rattle.std.specs.Prelude.{option_map}
+use Rattle.tree_commit.specs.Marks.{is_group_running}
+use Rattle.anim_host.specs.MarkLists.{Marked}
+use Rattle.anim_host.specs.Rows.{row_at}
+use Rattle.anim_host.specs.States.{models_of}
+use Rattle.anim_host.proofs.BlockLemmas.{end-frees, end-keeps}
+use Rattle.anim_host.proofs.ElementLemmas.{presence-same}
+use Rattle.anim_host.proofs.FitLemmas.{fits-next, follows-more}
+use Rattle.anim_host.proofs.StandLemmas.{advanced-next}
+use Rattle.anim_host.proofs.StateLemmas.{finishes-started}
+use Rattle.anim_host.proofs.standing.Standing.end.Goals as goal
+
+by-test : {A : Type 0} (b : Bool) → (b ≡ true → A) → (b ≡ false → A) → A
+by-test true one two = one refl
+by-test false one two = two refl
+
+pub invariant_of-self : goal.invariant_of-self
+invariant_of-self c =
+    let active = c.self.inside.active.value in
+    let pending = option_map (λ commit. commit.value) c.self.inside.pending in
+    let marks = c.self.inside.marks.marks in
+    let model = c.args.model.now in
+    let mark = c.args.mark in
+    let before = c.self.invariant in
+    let more : c.push.new.self.marks ≡ marks ++ mark ∷ [] = ap (λ (m : Marked). m.marks) c.push.ensures in
+    let order = c.next_order-order.ensures in
+    let there = rw (← c.self.view_is) at c.requires.there in
+    let last : is_group_running (marks ++ mark ∷ []) model.group ≡ not c.args.is_last = rw (← c.self.view_is) at c.requires.last in
+    let began = rw (← c.self.view_is) at c.requires.started in
+    let differ = rw c.deref.ensures at c.model_count.ensures.differ in
+    rw more (record {
+      of_rows =
+          advanced-next (row_at c.self.inside.rows) (row_at c.advance.new.self) active.tree.models (models_of pending) marks mark
+          before.of_rows before.finishes (rw order at c.advance.ensures.here) c.advance.ensures.others;
+      of_elements = presence-same c.self.inside.elements c.release_if.new.elements active pending c.release_if.ensures.presence before.of_elements;
+      of_blocks =
+          by-test c.args.is_last
+          (λ is.
+          end-frees active.tree.models c.self.inside.elements c.release_if.new.elements marks mark model before.fits there c.requires.of c.requires.ends
+          (last ∙ ap not is) (rw (c.element.ensures, c.group.ensures) at (c.release_if.ensures.freed is)) before.of_blocks)
+          (λ is.
+          rw (c.release_if.ensures.kept is)
+          (end-keeps active.tree.models c.self.inside.elements marks mark model before.fits there c.requires.of c.requires.ends (last ∙ ap not is) before.of_blocks));
+      finishes = finishes-started marks mark before.finishes began;
+      fits = fits-next active.tree.models marks mark model differ before.fits there c.requires.of;
+      follows = follows-more active.tree pending marks mark model before.follows there c.requires.of;
+    })

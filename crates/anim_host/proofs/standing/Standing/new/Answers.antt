@@ -1,0 +1,19 @@
+use Rattle.std.proofs.Common.{◌≡◌, [], ap, sym, ◌∙◌}
+use Rattle.anim_names.specs.declared.lane.Tree.TheVariants.{Active, Pending}
+use Rattle.anim_host.specs.Fits.{is_held_by}
+use Rattle.anim_host.specs.MarkLists.{Marked}
+use Rattle.anim_host.proofs.FitLemmas.{fits-nothing}
+use Rattle.anim_host.proofs.StandLemmas.{row-nowhere}
+use Rattle.anim_host.proofs.standing.Standing.new.Goals as goal
+
+pub invariant_of-result : goal.invariant_of-result
+invariant_of-result c =
+    let none : c.new.result.marks ≡ [] = ap (λ (m : Marked). m.marks) c.new.ensures in
+    rw (none, c.in_ok-empty.ensures) (record {
+      of_rows = λ id. c.new-2.ensures.none id ∙ sym (row-nowhere [] id);
+      of_elements = record { of_active = λ e. c.in_ok-new.ensures.absent Active e; of_pending = λ e. c.in_ok-new.ensures.absent Pending e };
+      of_blocks = λ g e p. ap (is_held_by g) (c.in_ok-new.ensures.free e p);
+      finishes = λ id ended alive. cc;
+      fits = fits-nothing;
+      follows = tt;
+    })

@@ -1,0 +1,66 @@
+use Rattle.std.proofs.Common.{◌≡◌, List, [], ℕ, None, Option, sym, ap, subst, ◌∙◌}
+use Rattle.std.specs.Prelude.{option_map}
+use Rattle.tree_commit.specs.Trees.{Committed}
+use Rattle.tree_commit.specs.Follows.{Follows}
+use Rattle.keyframe_model.specs.Models.{Spec}
+use Rattle.anim_host.specs.Elements.{PresenceStands}
+use Rattle.anim_host.specs.MarkLists.{Marked}
+use Rattle.anim_host.specs.States.{models_of, row_for}
+use Rattle.anim_host.proofs.ElementLemmas.{blocks-same, presence-announced, presence-same}
+use Rattle.anim_host.proofs.StateLemmas.{follows-waits}
+use Rattle.anim_host.proofs.standing.Standing.push_commit.Goals as goal
+
+pub invariant_of-self-in_err-reserve-2 : goal.invariant_of-self-in_err-reserve-2
+invariant_of-self-in_err-reserve-2 c =
+    let active = c.self.inside.active.value in
+    let pending = option_map (λ commit. commit.value) c.self.inside.pending in
+    record {
+      of_rows = λ id. c.reserve.ensures.rows id ∙ c.self.invariant.of_rows id;
+      of_elements = presence-same c.self.inside.elements c.reserve-2.new.table active pending c.reserve-2.ensures.same.presence c.self.invariant.of_elements;
+      of_blocks = blocks-same c.self.inside.elements c.reserve-2.new.table c.self.inside.marks.marks c.reserve-2.ensures.same.blocks c.self.invariant.of_blocks;
+      finishes = c.self.invariant.finishes;
+      fits = c.self.invariant.fits;
+      follows = c.self.invariant.follows;
+    }
+
+pub invariant_of-self-in_err-reserve-3 : goal.invariant_of-self-in_err-reserve-3
+invariant_of-self-in_err-reserve-3 c =
+    let same : c.reserve-3.new.self.marks ≡ c.self.inside.marks.marks = ap (λ (m : Marked). m.marks) c.reserve-3.ensures.same in
+    let active = c.self.inside.active.value in
+    let pending = option_map (λ commit. commit.value) c.self.inside.pending in
+    rw same (record {
+      of_rows = λ id. c.reserve.ensures.rows id ∙ c.self.invariant.of_rows id;
+      of_elements = presence-same c.self.inside.elements c.reserve-2.new.table active pending c.reserve-2.ensures.same.presence c.self.invariant.of_elements;
+      of_blocks = blocks-same c.self.inside.elements c.reserve-2.new.table c.self.inside.marks.marks c.reserve-2.ensures.same.blocks c.self.invariant.of_blocks;
+      finishes = c.self.invariant.finishes;
+      fits = c.self.invariant.fits;
+      follows = c.self.invariant.follows;
+    })
+
+pub invariant_of-self-2 : goal.invariant_of-self-2
+invariant_of-self-2 c =
+    let same : c.reserve-3.new.self.marks ≡ c.self.inside.marks.marks = ap (λ (m : Marked). m.marks) c.reserve-3.ensures.same in
+    let active = c.self.inside.active.value in
+    let marks = c.self.inside.marks.marks in
+    let commit = c.in_ok-commit.commit.value in
+    let free : option_map (λ commit. commit.value) c.self.inside.pending ≡ None = rw (← c.self.view_is) at c.requires.free in
+    let none : models_of (option_map (λ commit. commit.value) c.self.inside.pending) ≡ [] = ap models_of free in
+    let given : Follows active.tree c.args.commit.now.value.tree marks = rw (← c.self.view_is) at c.requires.follows in
+    let follows : Follows active.tree commit.tree marks = subst (λ (m : Committed). Follows active.tree m.tree marks) (sym c.in_ok-commit.ensures.cases) given in
+    let shown = subst (λ (o : Option Committed). PresenceStands c.self.inside.elements active o) free c.self.invariant.of_elements in
+    rw same (record {
+      of_rows = λ id.
+          c.join_pending.ensures active.tree.models marks
+          (λ (model : Spec) there gone. follows-waits active.tree commit.tree marks follows model (rw c.deref-4.ensures at there) gone)
+          (λ (other : ℕ). c.reserve.ensures.rows other ∙ c.self.invariant.of_rows other ∙ ap (λ (ms : List Spec). row_for active.tree.models ms marks other) none) id
+          ∙ ap (λ (m : Committed). row_for active.tree.models m.tree.models marks id) c.deref-4.ensures;
+      of_elements =
+          presence-announced c.reserve-2.new.table c.announce.new.table active commit (rw c.deref-5.ensures at c.announce.ensures)
+          (presence-same c.self.inside.elements c.reserve-2.new.table active None c.reserve-2.ensures.same.presence shown);
+      of_blocks =
+          blocks-same c.reserve-2.new.table c.announce.new.table marks c.announce.ensures.blocks
+          (blocks-same c.self.inside.elements c.reserve-2.new.table marks c.reserve-2.ensures.same.blocks c.self.invariant.of_blocks);
+      finishes = c.self.invariant.finishes;
+      fits = c.self.invariant.fits;
+      follows = follows;
+    })

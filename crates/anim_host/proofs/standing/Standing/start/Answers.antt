@@ -1,0 +1,49 @@
+use Rattle.std.proofs.Common.{◌≡◌, ◌∷◌, [], ◌++◌, ap, refl, to_z-of_z, ◌∙◌}
+use Rattle.std.specs.Prelude.{option_map, ℤ}
+use Rattle.keyframe_model.specs.Models.{property_of}
+use Rattle.tree_commit.specs.declared.runs.mark.Mark.TheVariants.{Started}
+use Rattle.anim_host.specs.MarkLists.{Marked}
+use Rattle.anim_host.specs.Rows.{row_at}
+use Rattle.anim_host.specs.States.{models_of}
+use Rattle.anim_host.proofs.BlockLemmas.{free-or-own, start-blocks}
+use Rattle.anim_host.proofs.ElementLemmas.{presence-same}
+use Rattle.anim_host.proofs.FitLemmas.{fits-next, follows-more}
+use Rattle.anim_host.proofs.StandLemmas.{advanced-next}
+use Rattle.anim_host.proofs.StateLemmas.{finishes-started}
+use Rattle.anim_host.proofs.standing.Standing.start.Goals as goal
+
+pub hold-requires-clause-free : goal.hold-requires-clause-free
+hold-requires-clause-free c =
+    let free = rw (← c.self.view_is) at c.requires.free in
+    rw (c.element.ensures, c.property.ensures, c.group.ensures)
+    (free-or-own c.self.inside.elements c.self.inside.marks.marks c.args.model.now.group c.args.model.now.element (property_of c.args.model.now)
+    c.self.invariant.of_blocks free)
+
+pub invariant_of-self : goal.invariant_of-self
+invariant_of-self c =
+    let active = c.self.inside.active.value in
+    let pending = option_map (λ commit. commit.value) c.self.inside.pending in
+    let marks = c.self.inside.marks.marks in
+    let model = c.args.model.now in
+    let mark = Started model.id model.group model.element (property_of model) c.args.at c.args.start in
+    let before = c.self.invariant in
+    let is_mark : c.started-mark.result ≡ mark = c.started-mark.ensures ∙ ap (λ (z : ℤ). Started model.id model.group model.element (property_of model) c.args.at z) (to_z-of_z c.ranges.start) in
+    let more : c.push.new.self.marks ≡ marks ++ mark ∷ [] = ap (λ (m : Marked). m.marks) c.push.ensures ∙ ap (λ m. marks ++ m ∷ []) is_mark in
+    let order = c.next_order-order.ensures in
+    let there = rw (← c.self.view_is) at c.requires.there in
+    let alive = rw (← c.self.view_is) at c.requires.alive in
+    let whole = rw (← c.self.view_is) at c.requires.whole in
+    let free = rw (← c.self.view_is) at c.requires.free in
+    let differ = rw c.deref.ensures at c.model_count.ensures.differ in
+    rw more (record {
+      of_rows =
+          advanced-next (row_at c.self.inside.rows) (row_at c.advance.new.self) active.tree.models (models_of pending) marks mark
+          before.of_rows before.finishes (rw (is_mark, order) at c.advance.ensures.here) (rw is_mark at c.advance.ensures.others);
+      of_elements = presence-same c.self.inside.elements c.hold.new.table active pending c.hold.ensures.presence before.of_elements;
+      of_blocks =
+          start-blocks c.self.inside.elements c.hold.new.table marks model.id model.group model.element (property_of model) c.args.at c.args.start
+          before.of_blocks whole alive free (rw (c.element.ensures, c.property.ensures, c.group.ensures) at c.hold.ensures);
+      finishes = finishes-started marks mark before.finishes (λ ends lives. cc);
+      fits = fits-next active.tree.models marks mark model differ before.fits there (refl, refl, refl, refl);
+      follows = follows-more active.tree pending marks mark model before.follows there (refl, refl, refl, refl);
+    })

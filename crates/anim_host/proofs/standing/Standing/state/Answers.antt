@@ -1,0 +1,21 @@
+use Rattle.std.proofs.Common.{◌≤◌, Option, ap, sym, subst, ◌∙◌}
+use Rattle.std.specs.Prelude.{unsigned_abs, IfSome}
+use Rattle.anim_timeline.specs.declared.TheConstants.{LAST_TIME}
+use Rattle.tree_commit.specs.declared.runs.shown.Shown.{Shown}
+use Rattle.anim_host.specs.States.{shown_at}
+use Rattle.keyframe_effect.specs.States.{is_ended, is_unfinished}
+use Rattle.anim_host.proofs.StateLemmas.{shown-within, state-ended, state-runs, state-shown}
+use Rattle.anim_host.proofs.standing.Standing.state.Goals as goal
+
+pub returns : goal.returns
+returns c =
+    let is = c.state_now.ensures.state in
+    let marks = c.args.self.now.list.marks in
+    let id = c.args.id in
+    record {
+      runs = ap is_unfinished is ∙ state-runs marks id;
+      ended = ap is_ended is ∙ state-ended marks id c.state_now.ensures.finishes;
+      shown = ap shown_at is ∙ state-shown marks id;
+      within = subst (λ (o : Option Shown). IfSome o (λ s. unsigned_abs s.start ≤ LAST_TIME)) (sym (ap shown_at is ∙ state-shown marks id))
+          (shown-within marks id (rw (← c.self.view_is) c.marks.ensures.within));
+    }

@@ -1,0 +1,55 @@
+use Rattle.std.proofs.Common.{◌≡◌, [], ℕ, None, Some, Option, sym, ap, subst, ◌∙◌}
+use Rattle.std.specs.Prelude.{option_map, IfSome}
+use Rattle.std.proofs.lemmas.Option.{same_Some}
+use Rattle.std.specs.declared.alloc.Global.{Global}
+use Rattle.std.specs.declared.sync.Arc.{Arc}
+use Rattle.tree_commit.specs.Trees.{Committed, has_element}
+use Rattle.tree_commit.specs.Follows.{Follows}
+use Rattle.tree_commit.specs.declared.runs.mark.Mark.{Mark}
+use Rattle.anim_host.specs.Elements.{PresenceStands}
+use Rattle.anim_host.specs.Fits.{IsThereIfRunning}
+use Rattle.anim_host.specs.States.{models_of, row_for}
+use Rattle.anim_host.proofs.ElementLemmas.{blocks-same}
+use Rattle.anim_host.proofs.FitLemmas.{fits-over}
+use Rattle.anim_host.proofs.standing.Standing.take_over.Goals as goal
+
+pub invariant_of-self : goal.invariant_of-self
+invariant_of-self c =
+    let active = c.self.inside.active.value in
+    let old = c.self.inside.pending in
+    let new = c.in-Some.pending.value in
+    let marks = c.self.inside.marks.marks in
+    let before = c.self.invariant in
+    let is_pending : option_map (λ (a : Arc Committed Global). a.value) old ≡ Some new =
+    ap (option_map (λ (a : Arc Committed Global). a.value)) (sym c.take.ensures.value ∙ c.in-Some.is) in
+    let none : option_map (λ (a : Arc Committed Global). a.value) c.take.new.self ≡ None =
+    ap (option_map (λ (a : Arc Committed Global). a.value)) c.take.ensures.after in
+    let given = rw (← c.self.view_is) at c.requires.pending in
+    let same : new ≡ c.args.commit.now = same_Some new c.args.commit.now (sym is_pending ∙ given) in
+    let follows : Follows active.tree new.tree marks = subst (λ (o : Option Committed). IfSome o (λ commit. Follows active.tree commit.tree marks)) is_pending before.follows in
+    let shown : PresenceStands c.self.inside.elements active (Some new) = subst (λ (o : Option Committed). PresenceStands c.self.inside.elements active o) is_pending before.of_elements in
+    let running = rw (← c.self.view_is) at c.requires.running in
+    rw none (record {
+      of_rows = λ id.
+          c.enter_active.ensures marks
+          (λ (other : ℕ).
+          c.leave_active.ensures new.tree.models marks
+          (λ (one : ℕ).
+          before.of_rows one
+          ∙ ap (λ (o : Option Committed). row_for active.tree.models (models_of o) marks one) is_pending
+          ∙ ap (λ (m : Committed). row_for m.tree.models new.tree.models marks one) (sym c.deref.ensures))
+          other
+          ∙ ap (λ (m : Committed). row_for [] m.tree.models marks other) (sym c.deref-in-Some.ensures))
+          id
+          ∙ ap (λ (m : Committed). row_for m.tree.models [] marks id) c.deref-in-Some.ensures;
+      of_elements = record {
+        of_active = λ e. c.swap.ensures.active e ∙ ap (λ (m : Committed). has_element m.tree e) c.deref-in-Some-3.ensures;
+        of_pending = c.swap.ensures.pending;
+      };
+      of_blocks = blocks-same c.self.inside.elements c.swap.new.table marks c.swap.ensures.blocks before.of_blocks;
+      finishes = before.finishes;
+      fits =
+          fits-over active.tree new.tree marks follows before.fits
+          (λ (mark : Mark) there. subst (λ (m : Committed). IsThereIfRunning m.tree.models marks mark) (sym same) (running mark there));
+      follows = tt;
+    })

@@ -1,0 +1,16 @@
+use Rattle.std.proofs.Common.{◌≡◌, ◌≤◌, ◌+◌, ℕ, false, List, [], take, length}
+use Rattle.anim_host.specs.Rows.{row_at}
+use Rattle.anim_host.specs.States.{is_among, row_for, state_of}
+use Rattle.keyframe_effect.specs.declared.state.RunState.TheVariants.{Waiting}
+use Rattle.keyframe_model.specs.Models.{Spec}
+use Rattle.tree_commit.specs.declared.runs.mark.Mark.{Mark}
+use Rattle.tree_commit.specs.Follows.{IsAmong}
+use Rattle.anim_host.proofs.standing.join_pending.Given as goal
+
+abbrev pub invariant-loop-index : goal.invariant-loop-index
+invariant-loop-index l =
+    (length l.commit.tree.models ≤ l.index + l.rows.room)
+    × ((active : List Spec) (marks : List Mark)
+    → ((model : Spec) → IsAmong model l.commit.tree.models → is_among active model.id ≡ false → state_of marks model.id ≡ Waiting)
+    → ((id : ℕ) → row_at l.fn.rows id ≡ row_for active [] marks id)
+    → (id : ℕ) → row_at l.rows id ≡ row_for active (take l.index l.commit.tree.models) marks id)

@@ -1,0 +1,25 @@
+use Rattle.std.proofs.Common.{◌≡◌, List, arith, ap, ◌∙◌}
+use Rattle.std.proofs.lemmas.List.{drop_all}
+use Rattle.keyframe_model.specs.Models.{Spec}
+use Rattle.anim_host.specs.Rows.{row_at}
+use Rattle.anim_host.specs.States.{row_for}
+use Rattle.anim_host.proofs.StandLemmas.{left-next}
+use Rattle.anim_host.proofs.standing.leave_active.Goals as goal
+
+pub loop-index-init : goal.loop-index-init
+loop-index-init c = λ pending marks stand. stand
+
+pub loop-index-preserved : goal.loop-index-preserved
+loop-index-preserved c =
+    let model = c.model_at.result.now.value in
+    let is : c.id.result ≡ model.id = c.id.ensures.value ∙ ap (λ (m : Spec). m.id) c.deref.ensures in
+    λ pending marks stand.
+    left-next (row_at c.loop-index.rows) (row_at c.leave_active.new.self) c.args.commit.now.tree.models pending marks c.loop-index.index model
+    c.model_count-index-end.ensures.differ c.model_at.ensures
+    (rw is at c.leave_active.ensures.here) (rw is at c.leave_active.ensures.others)
+    (c.loop-index.invariant pending marks stand)
+
+pub returns : goal.returns
+returns c = λ pending marks stand id.
+    c.loop-index.invariant pending marks stand id
+    ∙ ap (λ (ms : List Spec). row_for ms pending marks id) (drop_all c.loop-index.index c.args.commit.now.tree.models (omega arith))

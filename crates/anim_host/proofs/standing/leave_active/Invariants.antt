@@ -1,0 +1,12 @@
+use Rattle.std.proofs.Common.{◌≡◌, ℕ, List, drop}
+use Rattle.anim_host.specs.Rows.{row_at}
+use Rattle.anim_host.specs.States.{row_for}
+use Rattle.keyframe_model.specs.Models.{Spec}
+use Rattle.tree_commit.specs.declared.runs.mark.Mark.{Mark}
+use Rattle.anim_host.proofs.standing.leave_active.Given as goal
+
+abbrev pub invariant-loop-index : goal.invariant-loop-index
+invariant-loop-index l =
+    (pending : List Spec) (marks : List Mark)
+    → ((id : ℕ) → row_at l.fn.rows id ≡ row_for l.commit.tree.models pending marks id)
+    → (id : ℕ) → row_at l.rows id ≡ row_for (drop l.index l.commit.tree.models) pending marks id

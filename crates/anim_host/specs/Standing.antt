@@ -1,0 +1,41 @@
+-- What the tables of a host stand for: the active commit, the pending one or none, and the marks.
+use Rattle.std.specs.Prelude.{◌≡◌, ℕ, ◌+◌, ◌≤◌, List, length, Option, IfSome, option_map}
+use Rattle.anim_host.specs.Shapes.{shape_of}
+use Rattle.tree_commit.specs.declared.runs.mark.Mark.{Mark}
+use Rattle.element_anims.specs.Elements.{Anims}
+use Rattle.tree_commit.specs.Follows.{Follows}
+use Rattle.tree_commit.specs.Trees.{Committed}
+use Rattle.anim_host.specs.Elements.{PresenceStands}
+use Rattle.anim_host.specs.Fits.{AreSettled, BlocksStand, MarksFit}
+use Rattle.anim_host.specs.MarkLists.{Marked, with_marks}
+use Rattle.anim_host.specs.Rows.{Rows, row_at}
+use Rattle.anim_host.specs.States.{FinishesStarted, models_of, row_for}
+
+-- The tables stand for these commits and these marks. Each model of either commit has its row, which says in which of
+-- them it is and what the marks say of it, and there are no other rows. The table of elements says which elements are in
+-- which commit, and which group blocks each property. The marks go with the active commit, and the pending one follows.
+pub record StandsFor (rows : Rows) (table : Anims) (active : Committed) (pending : Option Committed) (marks : List Mark) : Type 0 where
+  pub of_rows : (id : ℕ) → row_at rows id ≡ row_for active.tree.models (models_of pending) marks id
+  pub of_elements : PresenceStands table active pending
+  pub of_blocks : BlocksStand table marks
+  pub finishes : FinishesStarted marks
+  pub fits : MarksFit active.tree.models marks
+  pub follows : IfSome pending (λ commit. Follows active.tree commit.tree marks)
+
+-- the active commit, the pending one or none, and the list of marks
+pub record Stood : Type 0 where
+  pub active : Committed
+  pub pending : Option Committed
+  pub list : Marked
+
+-- with new marks behind the others
+abbrev pub with_new : Stood → List Mark → Stood
+with_new stood new = record stood { list = with_marks stood.list new }
+
+-- The groups of each commit with the places of their models are those of the commits. Where a commit is pending, there is
+-- room for a mark for each model of the active one. The marks are those of whole steps.
+pub record GoTogether (stood : Stood) (shape : List (ℕ × List ℕ)) (next : Option (List (ℕ × List ℕ))) : Type 0 where
+  pub of_active : shape ≡ shape_of stood.active.tree.models
+  pub of_pending : next ≡ option_map (λ commit. shape_of commit.tree.models) stood.pending
+  pub settled : AreSettled stood.active.tree.models stood.list.marks
+  pub roomy : IfSome stood.pending (λ commit. length stood.list.marks + length stood.active.tree.models ≤ stood.list.room)

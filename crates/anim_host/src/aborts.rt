@@ -1,0 +1,63 @@
+//! What is aborted at an activation.
+
+ghost use Rattle.std.specs.Prelude.{◌≡◌, ◌+◌, ◌≤◌, ◌<◌, true, length};
+ghost use Rattle.anim_host.specs.MarkLists.{mark_if};
+ghost use Rattle.anim_host.specs.Shapes.{shape_of};
+ghost use Rattle.anim_host.specs.Standing.{with_new};
+ghost use Rattle.tree_commit.specs.Follows.{IsAmong};
+ghost use Rattle.tree_commit.specs.declared.runs.mark.Mark.TheVariants.{Aborted};
+ghost use Rattle.tree_commit.specs.Marks.{is_lost, marks_of_activation};
+ghost use Rattle.tree_commit.specs.Trees.{has_model};
+
+use crate::ends::end_model;
+use crate::row::{has_ended, runs};
+use crate::shape::Shape;
+use crate::standing::Standing;
+use keyframe_model::ModelSpec;
+use tree_commit::{Commit, Mark};
+
+/// Appends the new marks as the commit takes the place of the active one. It takes no memory.
+pub(crate) fn abort_lost(standing: &mut Standing, active: &Commit, shape: &Shape, new: &Commit)
+    requires shape { shape.now ≡ shape_of active.now.tree.models }
+    requires active { active.now ≡ standing.old.active }
+    requires room { length standing.old.list.marks + length active.now.tree.models ≤ standing.old.list.room }
+    ensures { standing.new ≡ with_new standing.old (marks_of_activation active.now.tree new.now standing.old.list.marks) }
+{
+    for index in 0..active.model_count() {
+        abort_one(standing, active, shape, active.model_at(index), new);
+    }
+}
+
+// The model's end where it is lost.
+fn abort_one(
+    standing: &mut Standing,
+    active: &Commit,
+    shape: &Shape,
+    model: &ModelSpec,
+    new: &Commit,
+)
+    requires active { active.now ≡ standing.old.active }
+    requires shape { shape.now ≡ shape_of active.now.tree.models }
+    requires there { IsAmong model.now active.now.tree.models }
+    requires room { length standing.old.list.marks < standing.old.list.room }
+    ensures { standing.new ≡ with_new standing.old
+        (mark_if (is_lost new.now.tree standing.old.list.marks model.now) (Aborted model.now.id new.now.number)) }
+{
+    if is_lost(standing, model, new) {
+        let mark = Mark::Aborted {
+            model: model.id(),
+            commit: new.number(),
+        };
+        end_model(standing, active, shape, model, mark);
+    }
+}
+
+// Whether the model is aborted as this commit becomes active.
+fn is_lost(standing: &Standing, model: &ModelSpec, new: &Commit) -> bool
+    requires there { has_model standing.now.active.tree model.now.id ≡ true }
+    ensures { result ≡ is_lost new.now.tree standing.now.list.marks model.now }
+{
+    let state = standing.state(model.id());
+    !has_ended(state)
+        && (!new.has_model(model.id()) || (runs(state) && !new.has_element(model.element())))
+}

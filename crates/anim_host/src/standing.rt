@@ -1,0 +1,320 @@
+ghost use Rattle.std.specs.Prelude.{◌≡◌, ◌≢◌, ◌++◌, not, ◌≤◌, ◌<◌, ◌+◌, ℕ, [], ◌∷◌, length, List, map, nat_eq, unsigned_abs, IfSome, true, false, None, Some, IfOk, OnOk, OnErr, option_map, if◌then◌else◌};
+ghost use Rattle.std.specs.List.{list_any};
+ghost use Rattle.anim_timeline.specs.declared.TheConstants.{LAST_TIME};
+ghost use Rattle.anim_host.specs.MarkLists.{StartIsWithin};
+ghost use Rattle.anim_host.specs.Fits.{IsOf, IsReleased, IsThereIfRunning, MarksFit};
+ghost use Rattle.anim_names.specs.declared.lane.Tree as lane;
+ghost use Rattle.element_anims.specs.Elements.{is_present};
+ghost use Rattle.tree_commit.specs.declared.runs.mark.Mark.TheVariants.{Started};
+ghost use Rattle.anim_host.specs.Rows.{row_at};
+ghost use Rattle.anim_host.specs.Standing.{Stood, with_new};
+ghost use Rattle.anim_host.specs.States.{FinishesStarted, is_among, row_for, shown_at, state_of};
+ghost use Rattle.keyframe_effect.specs.declared.state.RunState.TheVariants.{Waiting};
+ghost use Rattle.keyframe_effect.specs.States as state;
+ghost use Rattle.keyframe_effect.specs.States.{is_unfinished};
+ghost use Rattle.keyframe_model.specs.Models.{Spec, property_of};
+ghost use Rattle.tree_commit.specs.declared.runs.mark.Mark as declared;
+ghost use Rattle.tree_commit.specs.Follows.{Follows, IsAmong};
+ghost use Rattle.tree_commit.specs.Frames.{shown_by};
+ghost use Rattle.tree_commit.specs.Marks.{aborts, blocks, ends, is_blocked_for, is_ended, is_group_running, is_running, is_started, model_of, starts_in};
+ghost use Rattle.tree_commit.specs.Trees.{empty_commit, has_element, has_model};
+
+use crate::elements::{self, announce, hold, release, swap};
+use crate::mark_list::MarkList;
+use crate::row;
+use crate::rows::RowTable;
+use anim_names::{ElementId, GroupId, ModelId, Property};
+use element_anims::ElementAnims;
+use keyframe_effect::RunState;
+use keyframe_model::ModelSpec;
+use std::alloc::{AllocError, Global};
+use std::marker::Model;
+use std::sync::Arc;
+use tree_commit::{Commit, Mark, Shown};
+
+/// The active and the pending commit, all marks, and the table that says of each model of these commits how far it has
+/// come.
+///
+/// It does not know which marks come when. That the table stands for the commits and the marks is its invariant: it
+/// holds after every single mark. A contract sees the commits and the list of marks.
+pub(crate) struct Standing {
+    active: Arc<Commit>,
+    pending: Option<Arc<Commit>>,
+    marks: MarkList,
+    rows: RowTable,
+    elements: ElementAnims,
+}
+
+impl Drop for Standing {
+    fn drop(self) {
+        let Standing {
+            active: _active,
+            pending: _pending,
+            marks: _marks,
+            rows: _rows,
+            elements: _elements,
+        } = self;
+    }
+}
+
+impl Model for Standing {
+    ghost use Rattle.std.specs.Prelude.{option_map};
+    ghost use Rattle.anim_host.specs.Standing.{StandsFor, Stood};
+
+    ghost Value = { Stood };
+
+    ghost view = { λ s. record {
+      active = s.active.value;
+      pending = option_map (λ commit. commit.value) s.pending;
+      list = s.marks;
+    } };
+
+    ghost invariant = { λ s.
+        StandsFor s.rows s.elements s.active.value (option_map (λ commit. commit.value) s.pending) s.marks.marks };
+}
+
+impl Standing {
+    /// Commit 0 is active, and there is no mark.
+    pub(crate) fn new(alloc: Global) -> Result<Standing, AllocError>
+        ensures { IfOk result (λ stood.
+            stood ≡ record { active = empty_commit; pending = None; list = record { marks = []; cleared = 0; room = 0 } }) }
+    {
+        Ok(Standing {
+            active: Commit::empty(alloc)?,
+            pending: None,
+            marks: MarkList::new(alloc),
+            rows: RowTable::new(alloc),
+            elements: ElementAnims::new(alloc)?,
+        })
+    }
+
+    /// The pending commit, where there is one.
+    pub(crate) fn pending(&self) -> &Option<Arc<Commit>>
+        ensures { option_map (λ commit. commit.value) result.now ≡ self.now.pending }
+    {
+        &self.pending
+    }
+
+    /// The list of marks.
+    pub(crate) fn marks(&self) -> &MarkList
+        ensures { result.now ≡ self.now.list }
+    {
+        &self.marks
+    }
+
+    /// How far a model of the active commit has come.
+    pub(crate) fn state(&self, id: ModelId) -> RunState
+        requires { has_model self.now.active.tree id ≡ true }
+        ensures runs { is_unfinished result ≡ is_running self.now.list.marks id }
+        ensures ended { state.is_ended result ≡ is_ended self.now.list.marks id }
+        ensures shown { shown_at result ≡ shown_by self.now.list.marks id }
+        ensures within { IfSome (shown_at result) (λ s. unsigned_abs s.start ≤ LAST_TIME) }
+    {
+        let _ = self.marks.marks();
+        self.state_now(id)
+    }
+
+    // What the marks say of a model of the active commit.
+    fn state_now(&self, id: ModelId) -> RunState
+        requires { has_model self.now.active.tree id ≡ true }
+        ensures state { result ≡ state_of self.now.list.marks id }
+        ensures finishes { FinishesStarted self.now.list.marks }
+    {
+        match self.rows.row(id) {
+            Some(row) => row.state,
+            None => RunState::Waiting,
+        }
+    }
+
+    /// What is shown of a model: nothing of one that is not in the active commit.
+    pub(crate) fn shown(&self, id: ModelId) -> Option<Shown>
+        ensures { result ≡ (if has_model self.now.active.tree id then shown_by self.now.list.marks id else None) }
+    {
+        match self.rows.row(id) {
+            Some(row) if row.in_active => row::shown(row.state),
+            _ => None,
+        }
+    }
+
+    /// Whether some other group blocks the property of the element.
+    pub(crate) fn is_blocked_for(
+        &self,
+        group: GroupId,
+        element: ElementId,
+        property: Property,
+    ) -> bool
+        ensures { result ≡ is_blocked_for self.now.list.marks group element property }
+    {
+        match self.elements.blocked_by(element, property) {
+            None => false,
+            Some(blocker) => group != blocker,
+        }
+    }
+
+    /// Does nothing. What is so of every value of the type, its clauses say of this one.
+    pub(crate) fn vouch(&self)
+        ensures fits { MarksFit self.now.active.tree.models self.now.list.marks }
+        ensures follows { IfSome self.now.pending (λ commit. Follows self.now.active.tree commit.tree self.now.list.marks) }
+    {
+        let _ = &self.rows;
+    }
+
+    /// Makes room for this many further marks. Where there is no memory, all stays as it was.
+    pub(crate) fn reserve(&mut self, count: usize) -> Result<(), AllocError>
+        ensures room { OnOk result (length self.new.list.marks + count ≤ self.new.list.room) }
+        ensures same { self.new ≡ record self.old { list = record self.old.list { room = self.new.list.room } } }
+        ensures never_less { self.old.list.room ≤ self.new.list.room }
+        ensures err { OnErr result (self.new ≡ self.old) }
+    {
+        self.marks.reserve(count)
+    }
+
+    /// A model of the active commit starts: its mark goes behind the others, and from then on its group blocks its
+    /// property. No other group does, and its own group has started nothing that does not run.
+    pub(crate) fn start(&mut self, model: &ModelSpec, at: u64, start: i64)
+        requires room { length self.old.list.marks < self.old.list.room }
+        requires within { unsigned_abs start ≤ LAST_TIME }
+        requires there { IsAmong model.now self.old.active.tree.models }
+        requires present { has_element self.old.active.tree model.now.element ≡ true }
+        requires alive { is_ended self.old.list.marks model.now.id ≡ false }
+        requires whole { list_any (starts_in model.now.group) self.old.list.marks ≡ is_group_running self.old.list.marks model.now.group }
+        requires free { (other : ℕ) → other ≢ model.now.group
+            → blocks self.old.list.marks other model.now.element (property_of model.now) ≡ false }
+        ensures { self.new ≡ with_new self.old (Started model.now.id model.now.group model.now.element (property_of model.now) at start ∷ []) }
+    {
+        let _ = self.active.model_count();
+        let order = self.marks.next_order();
+        let mark = started(model, at, start);
+        self.rows.advance(&mark, order);
+        hold(
+            &mut self.elements,
+            model.element(),
+            model.property(),
+            model.group(),
+        );
+        self.marks.push(mark);
+    }
+
+    /// A model of the active commit ends: its mark goes behind the others. Where it is the last of its group that runs,
+    /// the group blocks nothing any more.
+    pub(crate) fn end(&mut self, model: &ModelSpec, mark: Mark, is_last: bool)
+        requires room { length self.old.list.marks < self.old.list.room }
+        requires there { IsAmong model.now self.old.active.tree.models }
+        requires of { IsOf mark model.now }
+        requires ends { (group : ℕ) → starts_in group mark ≡ false }
+        requires within { StartIsWithin mark }
+        requires started { ends (model_of mark) mark ≡ true → aborts (model_of mark) mark ≡ false
+            → is_started self.old.list.marks (model_of mark) ≡ true }
+        requires last { is_group_running (self.old.list.marks ++ mark ∷ []) model.now.group ≡ not is_last }
+        ensures { self.new ≡ with_new self.old (mark ∷ []) }
+    {
+        let _ = self.active.model_count();
+        let order = self.marks.next_order();
+        self.rows.advance(&mark, order);
+        release_if(is_last, &mut self.elements, model.element(), model.group());
+        self.marks.push(mark);
+    }
+
+    /// The news are cleared: all marks were told.
+    pub(crate) fn clear_news(&mut self)
+        ensures { self.new ≡ record self.old { list = record self.old.list { cleared = length self.old.list.marks } } }
+    {
+        self.marks.clear_news();
+    }
+
+    /// Makes this the pending commit, with room for a mark for each model of the active one. The host shares it.
+    pub(crate) fn push_commit(&mut self, commit: &Arc<Commit>) -> Result<(), AllocError>
+        requires free { self.old.pending ≡ None }
+        requires follows { Follows self.old.active.tree commit.now.value.tree self.old.list.marks }
+        ensures ok { OnOk result (self.new ≡ record self.old {
+          pending = Some commit.now.value;
+          list = record self.old.list { room = self.new.list.room };
+        }) }
+        ensures room { OnOk result (length self.new.list.marks + length self.new.active.tree.models ≤ self.new.list.room) }
+        ensures err { OnErr result (self.new ≡ self.old) }
+    {
+        let commit = commit.clone()?;
+        self.rows.reserve(commit.model_count())?;
+        elements::reserve(&mut self.elements, &commit)?;
+        self.marks.reserve(self.active.model_count())?;
+        join_pending(&mut self.rows, &commit);
+        announce(&mut self.elements, &commit);
+        self.pending = Some(commit);
+        Ok(())
+    }
+
+    /// Makes the pending commit the active one, which has each model that runs. It takes no memory.
+    pub(crate) fn take_over(&mut self, commit: &Commit)
+        requires pending { self.old.pending ≡ Some commit.now }
+        requires running { (mark : declared.Mark) → IsAmong mark self.old.list.marks
+            → IsThereIfRunning commit.now.tree.models self.old.list.marks mark }
+        ensures { self.new ≡ record self.old { active = commit.now; pending = None } }
+    {
+        if let Some(pending) = self.pending.take() {
+            leave_active(&mut self.rows, &self.active);
+            enter_active(&mut self.rows, &pending);
+            swap(&mut self.elements, &self.active, &pending);
+            self.active = pending;
+        }
+    }
+}
+
+// The mark of the model's start.
+fn started(model: &ModelSpec, at: u64, start: i64) -> Mark
+    ensures { result ≡ Started model.now.id model.now.group model.now.element (property_of model.now) at start }
+{
+    Mark::Started {
+        model: model.id(),
+        group: model.group(),
+        element: model.element(),
+        property: model.property(),
+        at,
+        start,
+    }
+}
+
+// The group blocks nothing of the element any more, where the test says so.
+fn release_if(test: bool, elements: &mut ElementAnims, element: ElementId, group: GroupId)
+    ensures freed { test ≡ true → IsReleased element group elements.old elements.new }
+    ensures kept { test ≡ false → elements.new ≡ elements.old }
+    ensures presence { (t : lane.Tree) (e : ℕ) → is_present elements.new t e ≡ is_present elements.old t e }
+{
+    if test {
+        release(elements, element, group);
+    }
+}
+
+// Each model of the commit is in the pending one from now on.
+fn join_pending(rows: &mut RowTable, commit: &Commit)
+    requires room { length commit.now.tree.models ≤ rows.old.room }
+    ensures { (active : List Spec) (marks : List declared.Mark)
+        → ((model : Spec) → IsAmong model commit.now.tree.models → is_among active model.id ≡ false → state_of marks model.id ≡ Waiting)
+        → ((id : ℕ) → row_at rows.old id ≡ row_for active [] marks id)
+        → (id : ℕ) → row_at rows.new id ≡ row_for active commit.now.tree.models marks id }
+{
+    for index in 0..commit.model_count() {
+        rows.join_pending(commit.model_at(index).id());
+    }
+}
+
+// No model of the commit is in the active one from now on.
+fn leave_active(rows: &mut RowTable, commit: &Commit)
+    ensures { (pending : List Spec) (marks : List declared.Mark)
+        → ((id : ℕ) → row_at rows.old id ≡ row_for commit.now.tree.models pending marks id)
+        → (id : ℕ) → row_at rows.new id ≡ row_for [] pending marks id }
+{
+    for index in 0..commit.model_count() {
+        rows.leave_active(commit.model_at(index).id());
+    }
+}
+
+// Each model of the commit is in the active one from now on, and not in the pending one.
+fn enter_active(rows: &mut RowTable, commit: &Commit)
+    ensures { (marks : List declared.Mark)
+        → ((id : ℕ) → row_at rows.old id ≡ row_for [] commit.now.tree.models marks id)
+        → (id : ℕ) → row_at rows.new id ≡ row_for commit.now.tree.models [] marks id }
+{
+    for index in 0..commit.model_count() {
+        rows.enter_active(commit.model_at(index).id());
+    }
+}

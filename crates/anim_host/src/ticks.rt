@@ -1,0 +1,131 @@
+//! The new marks of a tick.
+
+ghost use Rattle.std.specs.Prelude.{◌≡◌, ◌+◌, ◌≤◌, ◌<◌, ◌++◌, ◌∷◌, [], ℕ, true, length, map, option_map, slice_get, Some, IfOk, OnOk, OnErr};
+ghost use Rattle.anim_host.specs.MarkLists.{start_room};
+ghost use Rattle.std.specs.List.{AllByRecursion};
+ghost use Rattle.keyframe_model.specs.Models.{Spec};
+ghost use Rattle.tree_commit.specs.Follows.{IsAmong};
+ghost use Rattle.anim_host.specs.Fits.{AreSettled};
+ghost use Rattle.anim_host.specs.Shapes.{at_places, shape_of};
+ghost use Rattle.anim_host.specs.Standing.{with_new};
+ghost use Rattle.anim_timeline.specs.Timelines.{IsTime};
+ghost use Rattle.tree_commit.specs.declared.runs.mark.Mark.TheVariants.{Finished};
+ghost use Rattle.tree_commit.specs.Marks.{finishing_models, is_started, marks_of_tick};
+ghost use Rattle.tree_commit.specs.Trees.{groups_of};
+
+use crate::ends::end_model;
+use crate::finish::finishing;
+use crate::mark_list::sum;
+use crate::shape::Shape;
+use crate::standing::Standing;
+use crate::starts::{start_groups, start_room};
+use keyframe_model::ModelSpec;
+use std::alloc::{AllocError, Global};
+use tree_commit::{Commit, Mark};
+
+/// Appends the new marks of the tick. All memory is taken before the first of them, with room left for a mark for each
+/// model of the commit.
+pub(crate) fn make_tick(
+    alloc: Global,
+    standing: &mut Standing,
+    active: &Commit,
+    shape: &Shape,
+    next: &Option<Shape>,
+    tick: u64,
+) -> Result<(), AllocError>
+    requires active { active.now ≡ standing.old.active }
+    requires shape { shape.now ≡ shape_of active.now.tree.models }
+    requires next { next.now ≡ option_map (λ commit. shape_of commit.tree.models) standing.old.pending }
+    requires settled { AreSettled active.now.tree.models standing.old.list.marks }
+    requires in_time { IsTime tick }
+    ensures settled { OnOk result (AreSettled active.now.tree.models standing.new.list.marks) }
+    ensures marks { OnOk result (standing.new.list.marks
+        ≡ standing.old.list.marks ++ marks_of_tick active.now.tree standing.old.pending standing.old.list.marks tick) }
+    ensures same { OnOk result ((standing.new.active ≡ standing.old.active)
+        × (standing.new.pending ≡ standing.old.pending)
+        × (standing.new.list.cleared ≡ standing.old.list.cleared)) }
+    ensures left { OnOk result (length standing.new.list.marks + length active.now.tree.models ≤ standing.new.list.room) }
+    ensures err { OnErr result (standing.new ≡ standing.old) }
+{
+    let places = finishing(alloc, standing, active, shape, tick)?;
+    standing.reserve(tick_room(active, shape)?)?;
+    make_marks(standing, active, shape, next, &places, tick);
+    Ok(())
+}
+
+// Room for all models to finish, for all groups to start, and for all models to be aborted.
+fn tick_room(active: &Commit, shape: &Shape) -> Result<usize, AllocError>
+    requires shape { shape.now ≡ shape_of active.now.tree.models }
+    ensures { IfOk result (λ room. room
+        ≡ length active.now.tree.models + (start_room active.now.tree (groups_of active.now.tree) + length active.now.tree.models)) }
+{
+    let models = active.model_count();
+    sum(models, sum(start_room(active, shape)?, models)?)
+}
+
+#[tactic(auto, unfolding(tree_commit::specs::Marks::marks_of_tick))]
+fn make_marks(
+    standing: &mut Standing,
+    active: &Commit,
+    shape: &Shape,
+    next: &Option<Shape>,
+    places: &[usize],
+    tick: u64,
+)
+    requires active { active.now ≡ standing.old.active }
+    requires shape { shape.now ≡ shape_of active.now.tree.models }
+    requires next { next.now ≡ option_map (λ commit. shape_of commit.tree.models) standing.old.pending }
+    requires models { at_places active.now.tree.models places.now ≡ finishing_models active.now.tree standing.old.list.marks tick }
+    requires within { AllByRecursion (λ place. place < length active.now.tree.models) places.now }
+    requires settled { AreSettled active.now.tree.models standing.old.list.marks }
+    requires room { length standing.old.list.marks
+        + (length active.now.tree.models + (start_room active.now.tree (groups_of active.now.tree) + length active.now.tree.models))
+        ≤ standing.old.list.room }
+    requires in_time { IsTime tick }
+    ensures marks { standing.new ≡ with_new standing.old
+        (marks_of_tick active.now.tree standing.old.pending standing.old.list.marks tick) }
+    ensures left { length standing.new.list.marks + length active.now.tree.models ≤ standing.new.list.room }
+    ensures settled { AreSettled active.now.tree.models standing.new.list.marks }
+{
+    finish(standing, active, shape, places, tick);
+    start_groups(standing, active, shape, next, tick);
+}
+
+// The models at these places finish.
+fn finish(standing: &mut Standing, active: &Commit, shape: &Shape, places: &[usize], tick: u64)
+    requires active { active.now ≡ standing.old.active }
+    requires shape { shape.now ≡ shape_of active.now.tree.models }
+    requires within { AllByRecursion (λ place. place < length active.now.tree.models) places.now }
+    requires started { (model : Spec) → IsAmong model (at_places active.now.tree.models places.now)
+        → is_started standing.old.list.marks model.id ≡ true }
+    requires settled { AreSettled active.now.tree.models standing.old.list.marks }
+    requires room { length standing.old.list.marks + length places.now ≤ standing.old.list.room }
+    ensures marks { standing.new ≡ with_new standing.old
+        (map (λ model. Finished model.id tick) (at_places active.now.tree.models places.now)) }
+    ensures settled { AreSettled active.now.tree.models standing.new.list.marks }
+{
+    for index in 0..places.len() {
+        finish_one(
+            standing,
+            active,
+            shape,
+            active.model_at(places[index]),
+            tick,
+        );
+    }
+}
+
+fn finish_one(standing: &mut Standing, active: &Commit, shape: &Shape, model: &ModelSpec, tick: u64)
+    requires active { active.now ≡ standing.old.active }
+    requires shape { shape.now ≡ shape_of active.now.tree.models }
+    requires there { IsAmong model.now active.now.tree.models }
+    requires started { is_started standing.old.list.marks model.now.id ≡ true }
+    requires room { length standing.old.list.marks < standing.old.list.room }
+    ensures { standing.new ≡ with_new standing.old (Finished model.now.id tick ∷ []) }
+{
+    let mark = Mark::Finished {
+        model: model.id(),
+        at: tick,
+    };
+    end_model(standing, active, shape, model, mark);
+}

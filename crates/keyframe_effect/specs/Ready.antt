@@ -1,0 +1,31 @@
+-- Whether a group may start, by its row and by the table of elements.
+use Rattle.std.specs.Prelude.{ℕ, Bool, false, not, ◌==◌, ◌&&◌, ◌||◌, nat_lt, Option, Some, None, is_some}
+use Rattle.anim_names.specs.declared.lane.Tree.TheVariants.{Pending, Active}
+use Rattle.anim_names.specs.declared.property.Property.{Property}
+use Rattle.anim_names.specs.declared.property.Property.TheVariants.{Opacity, Transform}
+use Rattle.element_anims.specs.Elements.{Anims, is_present, blocker_of}
+use Rattle.keyframe_effect.specs.declared.group.GroupRow.{GroupRow}
+
+-- a group other than this one
+abbrev pub is_other : ℕ → Option ℕ → Bool
+is_other group None = false
+is_other group (Some blocker) = not (group == blocker)
+
+-- another group blocks the property of the element
+abbrev pub is_blocked_for : Anims → ℕ → ℕ → Property → Bool
+is_blocked_for table group element property = is_other group (blocker_of table element property)
+
+-- the element is in the active tree and, where it is asked for, in the pending one
+abbrev pub is_there : Anims → ℕ → Bool → Bool
+is_there table element pending_holds =
+    is_present table Active element && (not pending_holds || is_present table Pending element)
+
+-- The group is ready: models of it wait and none has started, its element is in the active tree and, where the pending
+-- commit holds a model of the group, in the pending tree too, and no other group blocks a property of its models.
+unfoldable pub is_ready : GroupRow → Anims → Bool → Bool
+is_ready row table pending_holds =
+    nat_lt 0 row.waiting
+    && not (is_some row.started)
+    && is_there table row.element pending_holds
+    && not (row.opacity && is_blocked_for table row.group row.element Opacity)
+    && not (row.transform && is_blocked_for table row.group row.element Transform)

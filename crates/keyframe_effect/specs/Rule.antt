@@ -1,0 +1,52 @@
+-- Whether a group may start, by its models: the rule that its row stands for.
+use Rattle.std.specs.Prelude.{◌≡◌, Bool, true, false, not, ◌==◌, ◌&&◌, nat_lt, List, is_some}
+use Rattle.std.specs.List.{list_any, list_all}
+use Rattle.anim_names.specs.declared.property.Property.{Property}
+use Rattle.anim_names.specs.declared.property.Property.TheVariants.{Opacity, Transform}
+use Rattle.keyframe_model.specs.Models.{Spec, property_of, same_property}
+use Rattle.element_anims.specs.Elements.{Anims}
+use Rattle.keyframe_effect.specs.declared.group.GroupRow.{GroupRow}
+use Rattle.keyframe_effect.specs.Ready.{is_blocked_for, is_there, is_ready}
+
+-- Nothing in the table keeps the model from starting: its element is there, and no other group blocks its property.
+abbrev pub may_start : Anims → Bool → Spec → Bool
+may_start table pending_holds model =
+    is_there table model.element pending_holds
+    && not (is_blocked_for table model.group model.element (property_of model))
+
+-- there are models
+abbrev pub has_some : List Spec → Bool
+has_some models = list_any (λ model. true) models
+
+-- one of these models is of the property
+abbrev pub animates : Property → List Spec → Bool
+animates property models = list_any (λ model. same_property property (property_of model)) models
+
+-- The rule, for the models of a group in the active commit: there are such, none of the group has started, and each of
+-- them may start.
+abbrev pub may_all_start : (Spec → Bool) → List Spec → Bool → Bool
+may_all_start may models has_started = has_some models && not has_started && list_all may models
+
+-- The row tells the truth of the group that has these models in the active commit: they are of its group and of its
+-- element; it has started where some model of the group has; and before that, models wait where there are any, and the
+-- properties are those of the models.
+pub record TellsOf (row : GroupRow) (models : List Spec) (has_started : Bool) : Type 0 where
+  pub own_group : list_all (λ model. row.group == model.group) models ≡ true
+  pub own_element : list_all (λ model. row.element == model.element) models ≡ true
+  pub started : is_some row.started ≡ has_started
+  pub waiting : has_started ≡ false → nat_lt 0 row.waiting ≡ has_some models
+  pub opacity : has_started ≡ false → row.opacity ≡ animates Opacity models
+  pub transform : has_started ≡ false → row.transform ≡ animates Transform models
+
+-- what keeps a model of the row's group and element from starting is what the table says
+abbrev pub IsInTable : GroupRow → Anims → Bool → (Spec → Bool) → Type 0
+IsInTable row table pending_holds may =
+    (model : Spec) → model.group ≡ row.group → model.element ≡ row.element → may model ≡ may_start table pending_holds model
+
+-- Where row and table tell the truth, a group is ready by its row exactly where it is ready by the rule.
+abbrev pub RowsFollowTheRule : Type 0
+RowsFollowTheRule =
+    (row : GroupRow) (table : Anims) (pending_holds : Bool) (models : List Spec) (has_started : Bool) (may : Spec → Bool)
+    → TellsOf row models has_started
+    → IsInTable row table pending_holds may
+    → is_ready row table pending_holds ≡ may_all_start may models has_started
