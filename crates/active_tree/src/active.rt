@@ -3,20 +3,27 @@ ghost use Rattle.anim_timeline.specs.Timelines.{IsTime};
 ghost use Rattle.tree_commit.specs.Frames.{LocalTimesFit, frame_by, row_of};
 ghost use Rattle.tree_commit.specs.Trees.{empty_commit};
 ghost use Rattle.tree_commit.specs.Views.{drawn_row_of};
+ghost use Rattle.active_tree.specs.ElementModels.{AreListsOf};
 
+use crate::element_models::ElementModels;
+use crate::sampling::sample_row;
 use easing_fixed::{EasingFunction, Evaluator};
 use std::alloc::{AllocError, Global};
 use std::marker::Model;
 use std::sync::Arc;
-use tree_commit::{Commit, Frame, FrameRow, StartTable, sample_element};
+use tree_commit::{Commit, Frame, FrameRow, StartTable};
 
 /// The commit that is drawn.
 ///
 /// The compositor has one active tree, on its own thread, and there is always a commit in it. It draws frames and does
-/// not know which models start, finish or are aborted: it asks a table of starts. A contract sees the active commit.
+/// not know which models start, finish or are aborted: it asks a table of starts. A frame costs its rows and one look at
+/// each model that animates one of its elements; the first frame of a commit also sorts the commit's models by element.
+/// A contract sees the active commit.
 pub struct ActiveTree {
     alloc: Global,
     commit: Arc<Commit>,
+    /// The models of the commit by element; none until the first frame after it was set.
+    models: Option<ElementModels>,
 }
 
 impl Drop for ActiveTree {
@@ -24,16 +31,21 @@ impl Drop for ActiveTree {
         let ActiveTree {
             alloc: _,
             commit: _commit,
+            models: _models,
         } = self;
     }
 }
 
 impl Model for ActiveTree {
+    ghost use Rattle.std.specs.Prelude.{IfSome};
     ghost use Rattle.tree_commit.specs.Trees.{Committed};
+    ghost use Rattle.active_tree.specs.ElementModels.{AreListsOf};
 
     ghost Value = { Committed };
 
     ghost view = { λ t. t.commit.value };
+
+    ghost invariant = { λ t. IfSome t.models (λ models. AreListsOf t.commit.value.tree.models models) };
 }
 
 impl ActiveTree {
@@ -42,13 +54,18 @@ impl ActiveTree {
         ensures { IfOk result (λ tree. tree ≡ empty_commit) }
     {
         let commit = Commit::empty(alloc)?;
-        Ok(ActiveTree { alloc, commit })
+        Ok(ActiveTree {
+            alloc,
+            commit,
+            models: None,
+        })
     }
 
     /// Makes this the active commit.
     pub fn set(&mut self, commit: Arc<Commit>)
         ensures { self.new ≡ commit.value }
     {
+        self.models = None;
         self.commit = commit;
     }
 
@@ -72,8 +89,21 @@ impl ActiveTree {
         ensures frame { IfOk result (λ frame. frame ≡ frame_by self.old (S.starts starts.now) time) }
         ensures same { self.new ≡ self.old }
     {
-        let rows = sample_all(self.alloc, &self.commit, time, starts, evaluator)?;
+        let models = self.take_models()?;
+        let rows = sample_all(self.alloc, &self.commit, &models, time, starts, evaluator)?;
+        self.models = Some(models);
         Ok(Frame::from_rows(time, self.commit.number(), rows))
+    }
+
+    // The models of the commit by element: those that an earlier frame left here, else made now.
+    fn take_models(&mut self) -> Result<ElementModels, AllocError>
+        ensures lists { IfOk result (λ models. AreListsOf self.old.tree.models models) }
+        ensures same { self.new ≡ self.old }
+    {
+        match self.models.take() {
+            Some(models) => Ok(models),
+            None => ElementModels::of(self.alloc, &self.commit),
+        }
     }
 }
 
@@ -81,10 +111,12 @@ impl ActiveTree {
 fn sample_all<S: StartTable, E: EasingFunction>(
     alloc: Global,
     commit: &Commit,
+    models: &ElementModels,
     time: u64,
     starts: &S,
     evaluator: &Evaluator<E>,
 ) -> Result<Vec<FrameRow>, AllocError>
+    requires lists { AreListsOf commit.now.tree.models models.now }
     requires in_time { IsTime time }
     requires locals { LocalTimesFit commit.now.tree (S.starts starts.now) time }
     ensures { IfOk result (λ rows.
@@ -93,7 +125,7 @@ fn sample_all<S: StartTable, E: EasingFunction>(
     let count = commit.element_count();
     let mut rows = Vec::with_capacity(alloc, count)?;
     for index in 0..count {
-        rows.push(sample_element(commit, index, time, starts, evaluator)?)?;
+        rows.push(sample_row(commit, models, index, time, starts, evaluator)?)?;
     }
     Ok(rows)
 }

@@ -5,6 +5,9 @@
 #![tactic(auto)]
 
 mod active;
+mod element_models;
+mod model_list;
+mod sampling;
 
 pub use active::ActiveTree;
 

@@ -8,4 +8,4 @@ pub loop-index-preserved : goal.loop-index-preserved
 loop-index-preserved g c =
     ap (map drawn_row_of) c.in_ok-push.ensures.items
     ∙ map-append _ _ _
-    ∙ take-next _ _ _ _ c.loop-index.invariant c.in_ok-sample_element.ensures
+    ∙ take-next _ _ _ _ c.loop-index.invariant c.in_ok-sample_row.ensures
