@@ -50,13 +50,7 @@ pub(crate) fn run_bytes<
     G: Gate + Sync,
     F: VerdictFunction + Sync,
     E: EasingFunction + Sync,
->(
-    rt: &R,
-    alloc: Global,
-    bytes: &[u8],
-    gate: &G,
-    hooks: &Hooks<F, E>,
-) -> Result<Answer, AllocError>
+>(rt: &R, alloc: Global, bytes: &[u8], gate: &G, hooks: &Hooks<F, E>) -> Result<Answer, AllocError>
     ensures { IfOk result (λ answer. IsAnswerTo FoundWord bytes.now answer.status answer.text.items) }
 {
     match read_script(alloc, bytes) {

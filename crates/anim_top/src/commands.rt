@@ -141,14 +141,7 @@ fn run_source<
     G: Gate + Sync,
     F: VerdictFunction + Sync,
     E: EasingFunction + Sync,
->(
-    rt: &R,
-    alloc: Global,
-    source: &mut S,
-    sink: &mut K,
-    gate: &G,
-    hooks: &Hooks<F, E>,
-) -> Status
+>(rt: &R, alloc: Global, source: &mut S, sink: &mut K, gate: &G, hooks: &Hooks<F, E>) -> Status
     ensures no_usage { result ≢ Status.Usage }
     ensures done { result ≡ Status.Done → IsReported FoundWord (S.left source.old) (S.left source.new) (K.taken sink.old) (K.taken sink.new) }
     ensures refused { (line : ℕ) (cause : Cause) → result ≡ Status.Refused line cause
