@@ -234,7 +234,6 @@ fn the_lanes_also_meet_on_one_thread(rt: HostRuntime) -> Result<(), Fail> {
 }
 
 /// Calls `in_turn` with these functions as hooks, on new sides and a new board.
-#[tactic(auto, using(crate::proofs::Beginning::may_replay))]
 fn in_turn_with<R: Wait, F: VerdictFunction + Drop, E: EasingFunction + Drop>(
     rt: &R,
     alloc: Global,
