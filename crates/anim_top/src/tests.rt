@@ -4,14 +4,18 @@ ghost use Rattle.anim_delegate.specs.Table.{verdict_on};
 ghost use Rattle.easing_fixed.specs.Evaluators.{MayEase, Eases};
 ghost use Rattle.edge_io.specs.Edges.{HasRisen};
 
+mod running;
+
 use super::*;
 use anim_delegate::{Delegate, Policy, Verdict, VerdictFunction};
 use anim_names::AnimEvent;
 use easing_fixed::{Easing, EasingFunction, Evaluator};
-use edge_io::{MemorySink, MemorySource, Sink, Source, SteadySink, SteadySource};
+use edge_io::{Gate, IdleGate, MemorySink, MemorySource, Sink, Source, SteadySink, SteadySource};
 use frame_script::Cause;
 use std::alloc::{AllocError, Global};
+use std::sync::Wait;
 use std::test::Fail;
+use std::thread::Threads;
 use tree_commit::EditRefusal;
 
 const SCRIPT: &str = "anim 1
@@ -137,11 +141,20 @@ fn arguments_of(alloc: Global, text: &str) -> Result<Vec<String>, AllocError> {
 }
 
 /// Calls `command` with these functions as hooks.
-fn command_with<S: Source, K: Sink, F: VerdictFunction + Drop, E: EasingFunction + Drop>(
-    rt: &HostRuntime,
+fn command_with<
+    R: Threads + Wait + Sync,
+    S: Source,
+    K: Sink,
+    G: Gate + Sync,
+    F: VerdictFunction + Sync + Drop,
+    E: EasingFunction + Sync + Drop,
+>(
+    rt: &R,
+    alloc: Global,
     arguments: &[String],
     source: &mut S,
     sink: &mut K,
+    gate: &G,
     verdict: F,
     ease: E,
 ) -> Status
@@ -156,7 +169,7 @@ fn command_with<S: Source, K: Sink, F: VerdictFunction + Drop, E: EasingFunction
         delegate: Delegate::new(verdict),
         evaluator: Evaluator::new(ease),
     };
-    command(rt, rt.alloc(), arguments, source, sink, &hooks)
+    command(rt, alloc, arguments, source, sink, gate, &hooks)
 }
 
 /// Calls `plain_command` with these functions as hooks.
@@ -181,20 +194,24 @@ fn plain_command_with<S: Source, K: Sink, F: VerdictFunction + Drop, E: EasingFu
 }
 
 /// Calls `command` with the functions that the program stores.
-fn run<S: Source, K: Sink>(
-    rt: &HostRuntime,
+fn call<R: Threads + Wait + Sync, S: Source, K: Sink, G: Gate + Sync>(
+    rt: &R,
+    alloc: Global,
     arguments: &[String],
     source: &mut S,
     sink: &mut K,
+    gate: &G,
 ) -> Status
     ensures read_fault { result ≡ Status.ReadFault → HasRisen (S.faults source.old) (S.faults source.new) }
     ensures write_fault { result ≡ Status.WriteFault → HasRisen (K.faults sink.old) (K.faults sink.new) }
 {
     command_with(
         rt,
+        alloc,
         arguments,
         source,
         sink,
+        gate,
         Policy::verdict_on,
         Easing::value,
     )
@@ -218,7 +235,7 @@ fn by_event(policy: Policy, event: &AnimEvent) -> Verdict
 }
 
 /// Calls `plain_command` with closures as the stored functions.
-fn run_plainly<S: Source, K: Sink>(
+fn call_plainly<S: Source, K: Sink>(
     alloc: Global,
     arguments: &[String],
     source: &mut S,
@@ -229,14 +246,37 @@ fn run_plainly<S: Source, K: Sink>(
     plain_command_with(alloc, arguments, source, sink, verdict, ease)
 }
 
-/// Replays the bytes, and gives the status and what was written.
-fn replayed(rt: &HostRuntime, bytes: &[u8]) -> Result<(Status, Vec<u8>), AllocError> {
-    let alloc = rt.alloc();
-    let arguments = arguments_of(alloc, "replay")?;
-    let mut source = MemorySource::new(bytes.to_vec(alloc)?, 100, Vec::new(alloc));
-    let mut sink = MemorySink::new(alloc, 64, Vec::new(alloc))?;
-    let status = run(rt, arguments.as_slice(), &mut source, &mut sink);
+/// What the program answers to these arguments over these bytes, and what it wrote. The calls of the source with the
+/// first numbers fail, and those of the sink with the second.
+fn answered<R: Threads + Wait + Sync, G: Gate + Sync>(
+    rt: &R,
+    alloc: Global,
+    arguments: &str,
+    bytes: &[u8],
+    failing: (&[u32], &[u32]),
+    gate: &G,
+) -> Result<(Status, Vec<u8>), AllocError> {
+    let arguments = arguments_of(alloc, arguments)?;
+    let mut source = MemorySource::new(bytes.to_vec(alloc)?, 100, failing.0.to_vec(alloc)?);
+    let mut sink = MemorySink::new(alloc, 64, failing.1.to_vec(alloc)?)?;
+    let status = call(
+        rt,
+        alloc,
+        arguments.as_slice(),
+        &mut source,
+        &mut sink,
+        gate,
+    );
     Ok((status, sink.taken().to_vec(alloc)?))
+}
+
+/// Replays the bytes, and gives the status and what was written.
+fn replayed<R: Threads + Wait + Sync>(
+    rt: &R,
+    alloc: Global,
+    bytes: &[u8],
+) -> Result<(Status, Vec<u8>), AllocError> {
+    answered(rt, alloc, "replay", bytes, (&[], &[]), &IdleGate)
 }
 
 #[test]
@@ -246,7 +286,7 @@ fn scripts_are_replayed(rt: HostRuntime) -> Result<(), Fail> {
         (EMPTY, EMPTY_REPORT),
         (DROPPED, DROPPED_REPORT),
     ] {
-        let (status, text) = replayed(&rt, script.as_bytes())?;
+        let (status, text) = replayed(&rt, rt.alloc(), script.as_bytes())?;
         assert!(rt; status == Status::Done);
         assert_eq!(rt; text.as_slice(), report.as_bytes());
     }
@@ -276,7 +316,7 @@ fn the_first_bad_line_is_refused(rt: HostRuntime) -> Result<(), Fail> {
         (15, "word MMMMCCCC", Cause::BadWord, "BadWord"),
     ] {
         let script = with_line(rt.alloc(), SCRIPT, line as usize, Some(new))?;
-        let (status, text) = replayed(&rt, script.as_bytes())?;
+        let (status, text) = replayed(&rt, rt.alloc(), script.as_bytes())?;
         assert!(rt; status == Status::Refused { line, cause });
         assert!(rt; status.number() == 3);
         let refusal = format!(in rt.alloc(); "refused: line {line}: {name}\n")?;
@@ -287,7 +327,8 @@ fn the_first_bad_line_is_refused(rt: HostRuntime) -> Result<(), Fail> {
 
 #[test]
 fn a_script_that_is_too_long_is_refused_with_a_byte_left(rt: HostRuntime) -> Result<(), Fail> {
-    let (status, text) = replayed(&rt, vec![in rt.alloc(); b'#'; (1 << 20) + 1]?.as_slice())?;
+    let bytes = vec![in rt.alloc(); b'#'; (1 << 20) + 1]?;
+    let (status, text) = replayed(&rt, rt.alloc(), bytes.as_slice())?;
     assert!(rt; text.as_slice() == b"refused: line 0: TooLong\n".as_slice());
     assert!(rt; status.number() == 3);
     Ok(())
@@ -302,7 +343,7 @@ fn made_scripts_are_written_and_loaded(rt: HostRuntime) -> Result<(), Fail> {
         ),
         ("gen 1", OF_ONE),
     ] {
-        let (status, text) = written(&rt, arguments)?;
+        let (status, text) = written(&rt, rt.alloc(), arguments)?;
         assert!(rt; status == Status::Done);
         assert_eq!(rt; text.as_slice(), report.as_bytes());
     }
@@ -310,37 +351,25 @@ fn made_scripts_are_written_and_loaded(rt: HostRuntime) -> Result<(), Fail> {
 }
 
 /// What a command that reads nothing writes, over a source that would fail at its first call.
-fn written(rt: &HostRuntime, text: &str) -> Result<(Status, Vec<u8>), AllocError> {
-    let alloc = rt.alloc();
-    let arguments = arguments_of(alloc, text)?;
-    let mut source = MemorySource::new(Vec::new(alloc), 100, vec![in alloc; 0]?);
-    let mut sink = MemorySink::new(alloc, 64, Vec::new(alloc))?;
-    let status = run(rt, arguments.as_slice(), &mut source, &mut sink);
-    Ok((status, sink.taken().to_vec(alloc)?))
+fn written<R: Threads + Wait + Sync>(
+    rt: &R,
+    alloc: Global,
+    arguments: &str,
+) -> Result<(Status, Vec<u8>), AllocError> {
+    answered(rt, alloc, arguments, b"", (&[0], &[]), &IdleGate)
 }
 
 #[test]
 fn any_delegate_and_any_evaluator_give_the_same_report(rt: HostRuntime) -> Result<(), Fail> {
     let alloc = rt.alloc();
     let arguments = arguments_of(alloc, "replay")?;
-    let (_, script) = written(&rt, "gen 5")?;
-    let (_, report) = replayed(&rt, script.as_slice())?;
+    let (_, script) = written(&rt, alloc, "gen 5")?;
+    let (_, report) = replayed(&rt, alloc, script.as_slice())?;
     let mut source = SteadySource::new(script);
     let mut sink = SteadySink::new(alloc, report.len())?;
-    let status = run_plainly(alloc, arguments.as_slice(), &mut source, &mut sink);
+    let status = call_plainly(alloc, arguments.as_slice(), &mut source, &mut sink);
     assert!(rt; status == Status::Done);
     assert!(rt; sink.taken() == report.as_slice());
-    Ok(())
-}
-
-#[test]
-fn the_report_of_an_empty_script_has_28_bytes(rt: HostRuntime) -> Result<(), Fail> {
-    let alloc = rt.alloc();
-    let mut source = SteadySource::new(EMPTY.as_bytes().to_vec(alloc)?);
-    let mut sink = SteadySink::new(alloc, 28)?;
-    assert!(rt; steadily(&rt, &mut source, &mut sink)? == Status::Done);
-    assert!(rt; sink.is_whole());
-    assert!(rt; sink.taken() == EMPTY_REPORT.as_bytes());
     Ok(())
 }
 
@@ -353,7 +382,7 @@ fn a_source_that_fails_leaves_nothing_written(rt: HostRuntime) -> Result<(), Fai
         let bytes = SCRIPT.as_bytes().to_vec(alloc)?;
         let mut source = MemorySource::new(bytes, 100, failing_calls);
         let mut sink = MemorySink::new(alloc, 64, Vec::new(alloc))?;
-        let status = run_plainly(alloc, arguments.as_slice(), &mut source, &mut sink);
+        let status = call_plainly(alloc, arguments.as_slice(), &mut source, &mut sink);
         if failing < 4 {
             assert_eq!(rt; status.number(), 4, "at call {failing}");
             assert_eq!(rt; sink.taken(), b"".as_slice());
@@ -372,7 +401,7 @@ fn a_sink_that_fails_took_a_front_of_the_report(rt: HostRuntime) -> Result<(), F
     for failing in 0..5 {
         let mut source = SteadySource::new(SCRIPT.as_bytes().to_vec(alloc)?);
         let mut sink = MemorySink::new(alloc, 64, vec![in alloc; failing]?)?;
-        let status = run_plainly(alloc, arguments.as_slice(), &mut source, &mut sink);
+        let status = call_plainly(alloc, arguments.as_slice(), &mut source, &mut sink);
         let taken = sink.taken();
         assert!(rt; REPORT.as_bytes().starts_with(taken));
         if failing < 4 {
@@ -392,27 +421,39 @@ fn arguments_that_are_no_command_touch_nothing(rt: HostRuntime) -> Result<(), Fa
     let mut source = SteadySource::new(SCRIPT.as_bytes().to_vec(alloc)?);
     let mut sink = SteadySink::new(alloc, 201)?;
     for text in [
-        "", "replay x", "gen", "gen 0", "gen 201", "gen 01", "gen +1", "load 1 2", "Run",
+        "", "replay x", "gen", "gen 0", "gen 201", "gen 01", "gen +1", "load 1 2", "Run", "run x",
     ] {
         let arguments = arguments_of(alloc, text)?;
-        let status = run(&rt, arguments.as_slice(), &mut source, &mut sink);
+        let status = call(
+            &rt,
+            alloc,
+            arguments.as_slice(),
+            &mut source,
+            &mut sink,
+            &IdleGate,
+        );
         assert_eq!(rt; status.number(), 2, "for {text:?}");
         assert_eq!(rt; sink.taken(), b"".as_slice());
     }
-    assert_eq!(rt; steadily(&rt, &mut source, &mut sink)?, Status::Done);
+    assert_eq!(rt;
+        steadily(&rt, rt.alloc(), "replay", &mut source, &mut sink)?,
+        Status::Done
+    );
     assert!(rt; sink.is_whole());
     assert_eq!(rt; sink.taken(), REPORT.as_bytes());
     Ok(())
 }
 
 /// Over a source and a sink that never fail no answer is a fault.
-fn steadily(
-    rt: &HostRuntime,
+fn steadily<R: Threads + Wait + Sync>(
+    rt: &R,
+    alloc: Global,
+    name: &str,
     source: &mut SteadySource,
     sink: &mut SteadySink,
 ) -> Result<Status, AllocError>
     ensures { IfOk result (λ status. (status ≢ Status.ReadFault) × (status ≢ Status.WriteFault)) }
 {
-    let arguments = arguments_of(rt.alloc(), "replay")?;
-    Ok(run(rt, arguments.as_slice(), source, sink))
+    let arguments = arguments_of(alloc, name)?;
+    Ok(call(rt, alloc, arguments.as_slice(), source, sink, &IdleGate))
 }
