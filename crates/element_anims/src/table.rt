@@ -35,7 +35,7 @@ impl Model for ElementAnims {
 }
 
 impl ElementAnims {
-    /// A table of which no element is in a tree and nothing is blocked.
+    /// A table of which no element is in a tree and nothing is blocked. It takes no memory yet.
     pub fn new(alloc: Global) -> Result<ElementAnims, AllocError>
         ensures absent { IfOk result (λ table. (tree : Tree) (element : ℕ) → is_present table tree element ≡ false) }
         ensures free { IfOk result (λ table. (element : ℕ) (property : Property) → blocker_of table element property ≡ None) }
@@ -46,7 +46,8 @@ impl ElementAnims {
     }
 
     /// Takes memory for elements to come: afterwards what is said of so many elements that are not known yet is kept
-    /// without memory. An element is known while it is in a tree or a property of it is blocked.
+    /// without memory. An element is known while it is in a tree or a property of it is blocked. Where there is no memory
+    /// for them, the table says what it said.
     pub fn reserve(&mut self, elements: u32) -> Result<(), AllocError>
         ensures room { OnOk result (elements ≤ self.new.room) }
         ensures kept { self.old.room ≤ self.new.room }
@@ -62,7 +63,7 @@ impl ElementAnims {
         self.rows.capacity() - self.rows.len()
     }
 
-    /// Says whether a tree has the element.
+    /// Says whether a tree has the element. It takes no memory: there must be room for one that is put in and not known.
     pub fn set_present(&mut self, tree: Tree, element: ElementId, there: bool)
         requires { there ≡ true → HasRoomFor self.old element }
         ensures set { IsSetPresent tree element there self.old self.new }
@@ -79,7 +80,8 @@ impl ElementAnims {
         self.row(element).is_in(tree)
     }
 
-    /// Says that a group blocks the property of the element. It is blocked until `unblock`.
+    /// Says that a group blocks the property of the element. It is blocked until `unblock`, whichever trees have the
+    /// element. It takes no memory, as `set_present`.
     pub fn block(&mut self, element: ElementId, property: Property, group: GroupId)
         requires free { blocker_of self.old element property ≡ None }
         requires room { HasRoomFor self.old element }
