@@ -373,43 +373,74 @@ fn any_delegate_and_any_evaluator_give_the_same_report(rt: HostRuntime) -> Resul
     Ok(())
 }
 
+const REFUSED: &str = "anim 3\n";
+
+const REFUSAL: &str = "refused: line 1: BadHeader\n";
+
+/// What the program answers on one thread where a call moves at most 16 bytes, and what it wrote. The calls of the source
+/// with the first numbers fail, and those of the sink with the second.
+fn in_pieces(
+    alloc: Global,
+    arguments: &str,
+    bytes: &[u8],
+    failing: (&[u32], &[u32]),
+) -> Result<(Status, Vec<u8>), AllocError> {
+    let arguments = arguments_of(alloc, arguments)?;
+    let mut source = MemorySource::new(bytes.to_vec(alloc)?, 16, failing.0.to_vec(alloc)?);
+    let mut sink = MemorySink::new(alloc, 16, failing.1.to_vec(alloc)?)?;
+    let status = call_plainly(alloc, arguments.as_slice(), &mut source, &mut sink);
+    Ok((status, sink.taken().to_vec(alloc)?))
+}
+
+// The last of these reads finds the end.
 #[test]
-fn a_source_that_fails_leaves_nothing_written(rt: HostRuntime) -> Result<(), Fail> {
-    let alloc = rt.alloc();
-    let arguments = arguments_of(alloc, "replay")?;
-    for failing in 0..5 {
-        let failing_calls = vec![in alloc; failing]?;
-        let bytes = SCRIPT.as_bytes().to_vec(alloc)?;
-        let mut source = MemorySource::new(bytes, 100, failing_calls);
-        let mut sink = MemorySink::new(alloc, 64, Vec::new(alloc))?;
-        let status = call_plainly(alloc, arguments.as_slice(), &mut source, &mut sink);
-        if failing < 4 {
-            assert_eq!(rt; status.number(), 4, "at call {failing}");
-            assert!(rt; sink.taken().is_empty());
-        } else {
-            assert!(rt; status.number() == 0);
-            assert!(rt; sink.taken() == REPORT.as_bytes());
+fn each_read_that_fails_leaves_nothing_written(rt: HostRuntime) -> Result<(), Fail> {
+    for (script, reads, number, text) in [(SCRIPT, 16u32, 0, REPORT), (REFUSED, 2, 3, REFUSAL)] {
+        for failing in 0..reads + 1 {
+            let calls = [failing];
+            let bytes = script.as_bytes();
+            let (status, written) = in_pieces(
+                rt.alloc(),
+                "replay",
+                bytes,
+                (calls.as_slice(), &[]),
+            )?;
+            if failing < reads {
+                assert!(rt; status.number() == 4);
+                assert!(rt; written.is_empty());
+            } else {
+                assert!(rt; status.number() == number);
+                assert!(rt; written.as_slice() == text.as_bytes());
+            }
         }
     }
     Ok(())
 }
 
 #[test]
-fn a_sink_that_fails_took_a_front_of_the_report(rt: HostRuntime) -> Result<(), Fail> {
-    let alloc = rt.alloc();
-    let arguments = arguments_of(alloc, "replay")?;
-    for failing in 0..5 {
-        let mut source = SteadySource::new(SCRIPT.as_bytes().to_vec(alloc)?);
-        let mut sink = MemorySink::new(alloc, 64, vec![in alloc; failing]?)?;
-        let status = call_plainly(alloc, arguments.as_slice(), &mut source, &mut sink);
-        let taken = sink.taken();
-        assert!(rt; REPORT.as_bytes().starts_with(taken));
-        if failing < 4 {
-            assert_eq!(rt; status.number(), 5, "at call {failing}");
-            assert!(rt; taken.len() == 64 * failing as usize);
-        } else {
-            assert!(rt; status.number() == 0);
-            assert!(rt; taken == REPORT.as_bytes());
+fn each_write_that_fails_took_a_front_of_the_text(rt: HostRuntime) -> Result<(), Fail> {
+    for (arguments, script, writes, number, text) in [
+        ("replay", SCRIPT, 13u32, 0, REPORT),
+        ("replay", REFUSED, 2, 3, REFUSAL),
+        ("gen 1", EMPTY, 27, 0, OF_ONE),
+    ] {
+        for failing in 0..writes + 1 {
+            let calls = [failing];
+            let bytes = script.as_bytes();
+            let (status, written) = in_pieces(
+                rt.alloc(),
+                arguments,
+                bytes,
+                (&[], calls.as_slice()),
+            )?;
+            if failing < writes {
+                assert!(rt; status.number() == 5);
+                assert!(rt; written.len() == 16usize.wrapping_mul(failing as usize));
+                assert!(rt; text.as_bytes().starts_with(written.as_slice()));
+            } else {
+                assert!(rt; status.number() == number);
+                assert!(rt; written.as_slice() == text.as_bytes());
+            }
         }
     }
     Ok(())
