@@ -1,7 +1,7 @@
 -- What the check opens to compute the reading of a script.
 use Rattle.std.specs.Prelude.{ℕ}
 use Rattle.tree_commit.specs.Edits.{book_after, edit_refusal, model_refusal}
-use Rattle.script_fields.specs.Words.{letters_said}
+use Rattle.script_fields.specs.Keywords.{letters_said}
 use Rattle.script_fields.specs.Values.{id_said, opacity_said, time_said, key_time_said, start_said, count_said, timing_with, timing_of}
 use Rattle.script_fields.specs.Easings.{steps_of, cubic_of, cubic_through}
 use Rattle.script_fields.specs.Lists.{operation_with, operation_read, list_read}

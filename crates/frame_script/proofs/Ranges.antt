@@ -26,7 +26,7 @@ use Rattle.script_fields.specs.declared.fault.FieldFault.{FieldFault}
 use Rattle.script_fields.specs.declared.values.TimingNumbers.{TimingNumbers}
 use Rattle.script_fields.specs.Fields.{◌>>=◌}
 use Rattle.script_fields.specs.Numbers.{number_said}
-use Rattle.script_fields.specs.Words.{property_said, policy_said}
+use Rattle.script_fields.specs.Keywords.{property_said, policy_said}
 use Rattle.script_fields.specs.Values.{id_said, opacity_said, time_said, key_time_said, start_said, timing_of}
 use Rattle.script_fields.specs.Easings.{easing_said}
 use Rattle.script_fields.specs.Lists.{is_list_long, list_read}

@@ -182,11 +182,11 @@ abbrev pub last_from : ℕ → List ℕ → ℕ
 last_from time [] = time
 last_from time (next ∷ times) = last_from next times
 
--- so many ticks of so many elements would be too many frames
+-- these numbers of ticks and of elements would make too many frames
 abbrev pub are_too_many : ℕ → ℕ → Bool
 are_too_many ticks elements = nat_lt MOST_FRAMES (ticks * elements)
 
--- why a step of the compositor may not be made after these steps, where so many elements were ever added
+-- why a step of the compositor may not be made after these steps, where `elements` counts the elements that were ever added
 abbrev pub tick_refusal : ℕ → List ℕ → ℕ → Option Cause
 tick_refusal elements ticks time =
     if nat_lt time (last_from 0 ticks) then Some TimeBack else
@@ -198,7 +198,7 @@ compositor_refusal elements ticks Pull = None
 compositor_refusal elements ticks Activate = None
 compositor_refusal elements ticks (Tick time) = tick_refusal elements ticks time
 
--- the compositor's steps with one more, where it may be made and so many elements were ever added
+-- the compositor's steps with one more, where it may be made; `elements` counts the elements that were ever added
 unfoldable pub compositor_with : ℕ → List CompositorStep → CompositorStep → Result (List CompositorStep) Cause
 compositor_with elements steps step = do
   room ← demand (has_room steps) (Edit (Limit Steps))

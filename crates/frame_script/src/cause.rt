@@ -10,7 +10,7 @@ pub enum Cause {
     /// The first line is not `anim 1`.
     #[error("the script does not begin with a header that is known")]
     BadHeader,
-    /// The line may not stand where it stands, it has another number of fields, or a field is none of its words.
+    /// The line may not stand where it stands, it has another number of fields, or a field is none of its keywords.
     #[error("the line is not of a form that may stand here")]
     BadLine,
     /// A number is not spelled as one, or it is out of range.

@@ -6,7 +6,7 @@ ghost use Rattle.frame_script.specs.States.{is_word_of};
 
 use anim_names::Lane;
 
-/// Whether a word has so many letters of main and so many of the compositor.
+/// Whether a word has these numbers of letters of main and of the compositor.
 pub fn is_word_of(main: usize, compositor: usize, word: &[Lane]) -> bool
     ensures { result ≡ is_word_of main compositor word.now }
 {

@@ -34,7 +34,7 @@ use Rattle.script_fields.specs.declared.values.TimingNumbers.{TimingNumbers}
 use Rattle.script_fields.specs.Fields.{parts, all_read, unless}
 use Rattle.script_fields.specs.Numbers.{natural_within, number_said}
 use Rattle.script_fields.specs.Values.{natural_of_number, iterations_of, rate_of, timing_with, timing_of}
-use Rattle.script_fields.specs.Words.{position_said}
+use Rattle.script_fields.specs.Keywords.{position_said}
 use Rattle.script_fields.specs.Easings.{keyword_said, steps_of, steps_said, cubic_of, cubic_through, cubic_said, easing_said}
 use Rattle.script_fields.specs.Lists.{operation_with, operation_read, is_none_alone, is_list_long, list_read}
 use Rattle.script_fields.specs.Printed.{position_text, number_text, cubic_text, easing_text, axes_text, turn_text, operation_text, list_fields}

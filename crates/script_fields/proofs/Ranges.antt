@@ -31,7 +31,7 @@ use Rattle.script_fields.specs.declared.values.TimingNumbers.{TimingNumbers}
 use Rattle.script_fields.specs.Fields.{◌>>=◌, parts, all_read, unless}
 use Rattle.script_fields.specs.Numbers.{natural_of, natural_kept, natural_within, number_said}
 use Rattle.script_fields.specs.Values.{id_said, opacity_said, time_said, key_time_said, start_said, iterations_of, natural_of_number, rate_of, timing_with, timing_of}
-use Rattle.script_fields.specs.Words.{position_said}
+use Rattle.script_fields.specs.Keywords.{position_said}
 use Rattle.script_fields.specs.Easings.{keyword_said, steps_of, steps_said, cubic_of, cubic_through, cubic_said, point_said, easing_said}
 use Rattle.script_fields.specs.Lists.{operation_read, is_none_alone, list_read}
 use Rattle.script_fields.proofs.Items.{read_in_range}

@@ -35,7 +35,7 @@ use Rattle.script_fields.specs.declared.values.Count.TheVariants.{Endless, Count
 use Rattle.script_fields.specs.Fields.{parts, all_say}
 use Rattle.script_fields.specs.Numbers.{natural_of, natural_within, integer_of, integer_kept, integer_within, number_said}
 use Rattle.script_fields.specs.Values.{id_said, opacity_said, time_said, key_time_said, start_said, count_said}
-use Rattle.script_fields.specs.Words.{property_said, direction_said, fill_said, policy_said, position_said, letter_said, letters_said}
+use Rattle.script_fields.specs.Keywords.{property_said, direction_said, fill_said, policy_said, position_said, letter_said, letters_said}
 use Rattle.script_fields.specs.Printed.{property_text, direction_text, fill_text, policy_text, position_text, letter, word_text, start_text, iterations_text}
 use Rattle.script_fields.proofs.Spelled.{natural_of-decimal, integer_of-signed_decimal, IsDigit, differs, digits_printed}
 
@@ -134,7 +134,7 @@ opacity_back opacity fits =
     let small : opacity < 2 ^ 63 = omega arith in
     rw (number_back (pos opacity) small, le-leb opacity FULL_OPACITY fits) refl
 
--- ---- words and numbers that have one word
+-- ---- keywords, and numbers that may be a keyword
 
 other_text : (bytes text : List ℕ) (same : Bool) → bytes_eq bytes text ≡ same → (bytes ≡ text → ⊥) → bytes_eq bytes text ≡ false
 other_text bytes text true is differ = absurd (differ ((bytes_eq-Decides bytes text).0 is))

@@ -11,7 +11,7 @@ use Rattle.easing_fixed.specs.Steps.{step_parts, step_refusal}
 use Rattle.easing_fixed.specs.Cubics.{cubic_parts, cubic_refusal}
 use Rattle.script_fields.specs.Fields.{parts, unless}
 use Rattle.script_fields.specs.Numbers.{natural_within, number_said}
-use Rattle.script_fields.specs.Words.{position_said}
+use Rattle.script_fields.specs.Keywords.{position_said}
 
 -- the easings that have a name, after CSS Easing Functions Level 1
 abbrev pub keyword_said : List ℕ → Option Easing

@@ -1,6 +1,6 @@
 pub mod Numbers
 pub mod Fields
-pub mod Words
+pub mod Keywords
 pub mod Easings
 pub mod Lists
 pub mod Values

@@ -84,7 +84,7 @@ is_none_alone other = false
 abbrev pub is_list_long : List (List ℕ) → Bool
 is_list_long fields = nat_le 1 (length fields) && nat_le (length fields) MOST_OPERATIONS
 
--- the list that so many fields spell, field by field
+-- the list that fields of this number spell, field by field
 unfoldable pub list_read : List (List ℕ) → Result (List TransformOp) FieldFault
 list_read fields = if is_none_alone fields then Ok [] else all_read operation_read fields
 

@@ -21,7 +21,7 @@ use Rattle.transform_ops.specs.declared.op.TransformOp.{TransformOp}
 use Rattle.transform_ops.specs.declared.op.TransformOp.TheVariants.{Translate, Scale, Rotate, Skew}
 use Rattle.script_fields.specs.Fields.{joined}
 
--- ---- words
+-- ---- keywords
 
 abbrev pub property_text : Property → List ℕ
 property_text Opacity = codes "opacity"

@@ -3,11 +3,11 @@
 ghost use Rattle.std.specs.Prelude.{◌≡◌, map, IfOk, option_and_then};
 ghost use Rattle.script_fields.specs.Easings as said;
 ghost use Rattle.script_fields.specs.Numbers.{natural_within};
-ghost use Rattle.script_fields.specs.Words.{position_said};
+ghost use Rattle.script_fields.specs.Keywords.{position_said};
 
 use crate::fields::{is, parts_of};
+use crate::keywords::position_said;
 use crate::numbers::{natural_within, number_said};
-use crate::words::position_said;
 use easing_fixed::{Easing, MOST_STEPS, StepPosition};
 use std::alloc::{AllocError, Global};
 

@@ -3,7 +3,7 @@ use thiserror::Error;
 /// What is wrong with a field.
 #[derive(Clone, Copy, Debug, PartialEq, Eq, Hash, Error)]
 pub enum FieldFault {
-    /// It is none of the words that may stand there, or it has other parts.
+    /// It is none of the keywords that may stand there, or it has other parts.
     #[error("the field is not of a form that may stand there")]
     BadForm,
     /// A number is not spelled as one, or it is out of range.

@@ -18,7 +18,7 @@ ghost use Rattle.anim_names.specs.declared.property.Property.{Property};
 ghost use Rattle.anim_delegate.specs.declared.policy.Policy.{Policy};
 ghost use Rattle.micro_time.specs.declared.direction.Direction.{Direction};
 ghost use Rattle.micro_time.specs.declared.fill.Fill.{Fill};
-ghost use Rattle.script_fields.specs.Words.{property_said, direction_said, fill_said, policy_said, letters_said};
+ghost use Rattle.script_fields.specs.Keywords.{property_said, direction_said, fill_said, policy_said, letters_said};
 ghost use Rattle.script_fields.specs.Printed.{property_text, direction_text, fill_text, policy_text, start_text, word_text, easing_text, list_fields};
 ghost use Rattle.script_fields.specs.Easings.{easing_said};
 ghost use Rattle.script_fields.specs.Lists.{list_read};

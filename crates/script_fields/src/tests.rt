@@ -1,5 +1,5 @@
 use super::*;
-use crate::words::{direction_said, fill_said, iterations_said, policy_said, property_said};
+use crate::keywords::{direction_said, fill_said, iterations_said, policy_said, property_said};
 use anim_delegate::Policy;
 use anim_names::Property;
 use easing_fixed::{Easing, StepPosition};
@@ -50,7 +50,7 @@ fn a_space_more_makes_an_empty_field(rt: HostRuntime) -> Result<(), Fail> {
 }
 
 #[test]
-fn words_say_what_they_name(rt: HostRuntime) {
+fn keywords_say_what_they_name(rt: HostRuntime) {
     assert_eq!(rt; property_said(b"opacity"), Some(Property::Opacity));
     assert_eq!(rt; property_said(b"transform"), Some(Property::Transform));
     assert_eq!(rt; property_said(b"Opacity"), None);

@@ -9,8 +9,8 @@ use crate::fault::LineFault;
 use anim_names::Lane;
 use frame_script::Cause;
 use script_fields::is;
+use script_fields::keywords::letters_said;
 use script_fields::values::time_said;
-use script_fields::words::letters_said;
 use std::alloc::Global;
 use tree_commit::CompositorStep;
 

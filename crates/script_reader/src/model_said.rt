@@ -10,8 +10,8 @@ use anim_names::{ElementId, GroupId, ModelId, TimelineId};
 use curve_keys::{FEWEST_KEYS, MOST_KEYS};
 use frame_script::{Cause, ModelLine, ModelNames};
 use micro_time::{Direction, Fill};
+use script_fields::keywords::{direction_said, fill_said, policy_said, property_said};
 use script_fields::values::{Count, TimingNumbers, count_said, id_said, start_said, timing_of};
-use script_fields::words::{direction_said, fill_said, policy_said, property_said};
 use script_fields::{easing_said, number_said};
 use std::alloc::Global;
 

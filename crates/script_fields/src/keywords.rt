@@ -1,8 +1,8 @@
-//! Fields that are one of a few words.
+//! Fields that are one of a few keywords, and the letters of a word of two lanes.
 
 ghost use Rattle.std.specs.Prelude.{◌≡◌, IfOk, option_map};
 ghost use Rattle.script_fields.specs.Fields.{all_say};
-ghost use Rattle.script_fields.specs.Words as said;
+ghost use Rattle.script_fields.specs.Keywords as said;
 
 use crate::fields::is;
 use crate::numbers::natural_within;
@@ -13,12 +13,12 @@ use micro_time::{Direction, Fill, Iterations, MOST_ITERATIONS};
 use std::alloc::{AllocError, Global};
 
 /// What of its element a model animates.
-pub fn property_said(word: &[u8]) -> Option<Property>
-    ensures { result ≡ said.property_said word.now }
+pub fn property_said(keyword: &[u8]) -> Option<Property>
+    ensures { result ≡ said.property_said keyword.now }
 {
-    if is(word, "opacity") {
+    if is(keyword, "opacity") {
         Some(Property::Opacity)
-    } else if is(word, "transform") {
+    } else if is(keyword, "transform") {
         Some(Property::Transform)
     } else {
         None
@@ -26,16 +26,16 @@ pub fn property_said(word: &[u8]) -> Option<Property>
 }
 
 /// In which direction a model runs.
-pub fn direction_said(word: &[u8]) -> Option<Direction>
-    ensures { result ≡ said.direction_said word.now }
+pub fn direction_said(keyword: &[u8]) -> Option<Direction>
+    ensures { result ≡ said.direction_said keyword.now }
 {
-    if is(word, "normal") {
+    if is(keyword, "normal") {
         Some(Direction::Normal)
-    } else if is(word, "reverse") {
+    } else if is(keyword, "reverse") {
         Some(Direction::Reverse)
-    } else if is(word, "alternate") {
+    } else if is(keyword, "alternate") {
         Some(Direction::Alternate)
-    } else if is(word, "alternate-reverse") {
+    } else if is(keyword, "alternate-reverse") {
         Some(Direction::AlternateReverse)
     } else {
         None
@@ -43,16 +43,16 @@ pub fn direction_said(word: &[u8]) -> Option<Direction>
 }
 
 /// Before and after which end a model gives a value.
-pub fn fill_said(word: &[u8]) -> Option<Fill>
-    ensures { result ≡ said.fill_said word.now }
+pub fn fill_said(keyword: &[u8]) -> Option<Fill>
+    ensures { result ≡ said.fill_said keyword.now }
 {
-    if is(word, "none") {
+    if is(keyword, "none") {
         Some(Fill::Neither)
-    } else if is(word, "forwards") {
+    } else if is(keyword, "forwards") {
         Some(Fill::Forwards)
-    } else if is(word, "backwards") {
+    } else if is(keyword, "backwards") {
         Some(Fill::Backwards)
-    } else if is(word, "both") {
+    } else if is(keyword, "both") {
         Some(Fill::Both)
     } else {
         None
@@ -60,14 +60,14 @@ pub fn fill_said(word: &[u8]) -> Option<Fill>
 }
 
 /// After which event main drops a model by itself.
-pub fn policy_said(word: &[u8]) -> Option<Policy>
-    ensures { result ≡ said.policy_said word.now }
+pub fn policy_said(keyword: &[u8]) -> Option<Policy>
+    ensures { result ≡ said.policy_said keyword.now }
 {
-    if is(word, "auto") {
+    if is(keyword, "auto") {
         Some(Policy::Auto)
-    } else if is(word, "finished") {
+    } else if is(keyword, "finished") {
         Some(Policy::FinishedOnly)
-    } else if is(word, "manual") {
+    } else if is(keyword, "manual") {
         Some(Policy::Manual)
     } else {
         None
@@ -75,16 +75,16 @@ pub fn policy_said(word: &[u8]) -> Option<Policy>
 }
 
 // Where a step function jumps.
-pub(crate) fn position_said(word: &[u8]) -> Option<StepPosition>
-    ensures { result ≡ said.position_said word.now }
+pub(crate) fn position_said(keyword: &[u8]) -> Option<StepPosition>
+    ensures { result ≡ said.position_said keyword.now }
 {
-    if is(word, "jump-start") || is(word, "start") {
+    if is(keyword, "jump-start") || is(keyword, "start") {
         Some(StepPosition::JumpStart)
-    } else if is(word, "jump-end") || is(word, "end") {
+    } else if is(keyword, "jump-end") || is(keyword, "end") {
         Some(StepPosition::JumpEnd)
-    } else if is(word, "jump-none") {
+    } else if is(keyword, "jump-none") {
         Some(StepPosition::JumpNone)
-    } else if is(word, "jump-both") {
+    } else if is(keyword, "jump-both") {
         Some(StepPosition::JumpBoth)
     } else {
         None
@@ -103,7 +103,7 @@ pub fn iterations_said(field: &[u8]) -> Option<Iterations>
 }
 
 /// The letters of a word: M for a step of main and C for one of the compositor, or a dash alone for none.
-#[tactic(auto, unfolding(crate::specs::Words::letters_said))]
+#[tactic(auto, unfolding(crate::specs::Keywords::letters_said))]
 pub fn letters_said(alloc: Global, field: &[u8]) -> Result<Option<Vec<Lane>>, AllocError>
     ensures { IfOk result (λ word. option_map (λ word. word.items) word ≡ said.letters_said field.now) }
 {

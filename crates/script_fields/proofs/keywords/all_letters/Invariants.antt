@@ -1,7 +1,7 @@
 use Rattle.std.proofs.Common.{◌≡◌, ◌++◌, drop, option_map}
 use Rattle.script_fields.specs.Fields.{all_say}
-use Rattle.script_fields.specs.Words.{letter_said}
-use Rattle.script_fields.proofs.words.all_letters.Given as goal
+use Rattle.script_fields.specs.Keywords.{letter_said}
+use Rattle.script_fields.proofs.keywords.all_letters.Given as goal
 
 abbrev pub invariant-loop-byte : goal.invariant-loop-byte
 invariant-loop-byte l = record {

@@ -1,4 +1,4 @@
--- Fields that are one of a few words.
+-- Fields that are one of a few keywords, and the letters of a word of two lanes.
 use Rattle.std.specs.Prelude.{ℕ, List, [], ◌∷◌, ◌==◌, Option, Some, None, option_map, if◌then◌else◌, codes}
 use Rattle.std.specs.Str.{bytes_eq}
 use Rattle.anim_names.specs.declared.lane.Lane.{Lane}
@@ -20,43 +20,43 @@ use Rattle.script_fields.specs.Fields.{all_say}
 use Rattle.script_fields.specs.Numbers.{natural_within}
 
 abbrev pub property_said : List ℕ → Option Property
-property_said word =
-    if bytes_eq word (codes "opacity") then Some Opacity else
-    if bytes_eq word (codes "transform") then Some Transform else
+property_said keyword =
+    if bytes_eq keyword (codes "opacity") then Some Opacity else
+    if bytes_eq keyword (codes "transform") then Some Transform else
     None
 
 abbrev pub direction_said : List ℕ → Option Direction
-direction_said word =
-    if bytes_eq word (codes "normal") then Some Normal else
-    if bytes_eq word (codes "reverse") then Some Reverse else
-    if bytes_eq word (codes "alternate") then Some Alternate else
-    if bytes_eq word (codes "alternate-reverse") then Some AlternateReverse else
+direction_said keyword =
+    if bytes_eq keyword (codes "normal") then Some Normal else
+    if bytes_eq keyword (codes "reverse") then Some Reverse else
+    if bytes_eq keyword (codes "alternate") then Some Alternate else
+    if bytes_eq keyword (codes "alternate-reverse") then Some AlternateReverse else
     None
 
 abbrev pub fill_said : List ℕ → Option Fill
-fill_said word =
-    if bytes_eq word (codes "none") then Some Neither else
-    if bytes_eq word (codes "forwards") then Some Forwards else
-    if bytes_eq word (codes "backwards") then Some Backwards else
-    if bytes_eq word (codes "both") then Some Both else
+fill_said keyword =
+    if bytes_eq keyword (codes "none") then Some Neither else
+    if bytes_eq keyword (codes "forwards") then Some Forwards else
+    if bytes_eq keyword (codes "backwards") then Some Backwards else
+    if bytes_eq keyword (codes "both") then Some Both else
     None
 
 abbrev pub policy_said : List ℕ → Option Policy
-policy_said word =
-    if bytes_eq word (codes "auto") then Some Auto else
-    if bytes_eq word (codes "finished") then Some FinishedOnly else
-    if bytes_eq word (codes "manual") then Some Manual else
+policy_said keyword =
+    if bytes_eq keyword (codes "auto") then Some Auto else
+    if bytes_eq keyword (codes "finished") then Some FinishedOnly else
+    if bytes_eq keyword (codes "manual") then Some Manual else
     None
 
--- where a step function jumps: `start` and `end` are short for two of the words
+-- where a step function jumps: `start` and `end` are short for two of the keywords
 abbrev pub position_said : List ℕ → Option StepPosition
-position_said word =
-    if bytes_eq word (codes "jump-start") then Some JumpStart else
-    if bytes_eq word (codes "jump-end") then Some JumpEnd else
-    if bytes_eq word (codes "jump-none") then Some JumpNone else
-    if bytes_eq word (codes "jump-both") then Some JumpBoth else
-    if bytes_eq word (codes "start") then Some JumpStart else
-    if bytes_eq word (codes "end") then Some JumpEnd else
+position_said keyword =
+    if bytes_eq keyword (codes "jump-start") then Some JumpStart else
+    if bytes_eq keyword (codes "jump-end") then Some JumpEnd else
+    if bytes_eq keyword (codes "jump-none") then Some JumpNone else
+    if bytes_eq keyword (codes "jump-both") then Some JumpBoth else
+    if bytes_eq keyword (codes "start") then Some JumpStart else
+    if bytes_eq keyword (codes "end") then Some JumpEnd else
     None
 
 -- how often a curve is run through, in thousandths
