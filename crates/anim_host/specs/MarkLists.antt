@@ -26,7 +26,7 @@ abbrev pub StartsAreWithin : List Mark → Type 0
 StartsAreWithin [] = Unit {0}
 StartsAreWithin (mark ∷ marks) = StartIsWithin mark × StartsAreWithin marks
 
--- the events of the marks behind the first so many
+-- the events of the marks behind the first ones, by their number
 abbrev pub events_behind : ℕ → List Mark → List AnimEvent
 events_behind cleared marks = map event_of (drop cleared marks)
 

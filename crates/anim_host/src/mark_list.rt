@@ -88,7 +88,7 @@ impl MarkList {
         self.marks.len() as u32
     }
 
-    /// The first so many marks.
+    /// The first marks, up to this number.
     #[tactic(auto, using(crate::proofs::MarkListLemmas::within_take))]
     pub(crate) fn first(&self, count: usize) -> &[Mark]
         requires { count ≤ length self.now.marks }

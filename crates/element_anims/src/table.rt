@@ -45,8 +45,8 @@ impl ElementAnims {
         })
     }
 
-    /// Takes memory for elements to come: afterwards what is said of so many elements that are not known yet is kept
-    /// without memory. An element is known while it is in a tree or a property of it is blocked. Where there is no memory
+    /// Takes memory for elements to come: afterwards what is said of this number of elements that are not known yet
+    /// is kept without memory. An element is known while it is in a tree or a property of it is blocked. Where there is no memory
     /// for them, the table says what it said.
     pub fn reserve(&mut self, elements: u32) -> Result<(), AllocError>
         ensures room { OnOk result (elements ≤ self.new.room) }

@@ -41,7 +41,7 @@ told_fields events =
     ∷ codes "aborted" ∷ decimal (count_by is_abort events) ∷ []
 
 -- `load NUMBER: frames F rows R started S finished X aborted A heard H bytes B`: how many frames, rows and events of each
--- kind the report has, how many events main had heard in the end, and so many bytes of text
+-- kind the report has, how many events main had heard in the end, and how many bytes its text has
 unfoldable pub summary_text : ℕ → ReportLists → ℕ → List ℕ
 summary_text number report bytes =
     line (codes "load" ∷ (decimal number ++ codes ":") ∷ shown_fields report ++ told_fields report.events

@@ -55,7 +55,7 @@ letters-other lane n word =
 pub word-one_more : (entries : List Entry) (entry : Entry) → word_so_far (entries ++ entry ∷ []) ≡ filled entry.lane entry.upto (word_so_far entries)
 word-one_more entries entry = fold-append (λ word (e : Entry). filled e.lane e.upto word) [] entries (entry ∷ [])
 
--- the word with so many letters of the lane
+-- the word with this number of letters of the lane
 pub filled-up : (lane : Lane) (upto more : ℕ) (word : List Lane) → upto ≡ letters_of lane word + more → filled lane upto word ≡ with_letters lane more word
 filled-up lane upto more word is = ap (λ n. word ++ replicate n lane) (omega (arith, is))
 

@@ -30,7 +30,7 @@ pub record IsSeatOf (script : ScriptLists) (lane : Lane) (seat : SeatState) : Ty
 
 -- ---- main
 
--- the step is the one that main makes after so many
+-- the step is the one that main makes after this number of steps
 abbrev pub IsNextOfMain : ScriptLists → ℕ → StepOfMain → Type 0
 IsNextOfMain script made step = drop made script.main ≡ step ∷ drop (made + 1) script.main
 
@@ -50,7 +50,7 @@ pub record IsMainAhead (script : ScriptLists) (word : List Lane) (silent : ℕ) 
   pub quiet : (room event_room : ℕ) → board_of (course_of script (with_letters Main silent word)) room event_room
       ≡ board_of (course_of script word) room event_room
 
--- Main is so many steps ahead of what its seat has seen, however many steps the compositor has made meanwhile.
+-- Main is a number of steps ahead of what its seat has seen, however many steps the compositor has made meanwhile.
 pub record KnowsMain (script : ScriptLists) (seat : SeatState) (main : MainState) (counts : List ℕ) : Type 0 where
   pub seat_is : IsSeatOf script Main seat
   pub silent : ℕ
@@ -58,7 +58,7 @@ pub record KnowsMain (script : ScriptLists) (seat : SeatState) (main : MainState
 
 -- ---- the compositor
 
--- the step is the one that the compositor makes after so many
+-- the step is the one that the compositor makes after this number of steps
 abbrev pub IsNextOfCompositor : ScriptLists → ℕ → CompositorStep → Type 0
 IsNextOfCompositor script made step = drop made script.compositor ≡ step ∷ drop (made + 1) script.compositor
 
@@ -77,7 +77,7 @@ pub record IsCompositorAhead (script : ScriptLists) (word : List Lane) (silent :
   pub quiet : (room event_room : ℕ) → board_of (course_of script (with_letters Compositor silent word)) room event_room
       ≡ board_of (course_of script word) room event_room
 
--- The compositor is so many steps ahead of what its seat has seen, however many steps main has made meanwhile.
+-- The compositor is a number of steps ahead of what its seat has seen, however many steps main has made meanwhile.
 pub record KnowsCompositor (script : ScriptLists) (seat : SeatState) (compositor : CompositorState) (frames : List DrawnFrame) : Type 0 where
   pub seat_is : IsSeatOf script Compositor seat
   pub silent : ℕ

@@ -1,6 +1,7 @@
 -- How large the numbers of a run grow.
 use Rattle.std.specs.Prelude.{◌≡◌, ℕ, ◌*◌, ◌≤◌, ◌<◌, ◌^◌, unsigned_abs, List, length, Some}
 use Rattle.anim_timeline.specs.declared.TheConstants.{LAST_TIME}
+use Rattle.micro_time.specs.declared.TheConstants.{LARGEST_LOCAL}
 use Rattle.keyframe_model.specs.Models.{Spec}
 use Rattle.tree_commit.specs.declared.runs.mark.Mark.{Mark}
 use Rattle.tree_commit.specs.declared.runs.mark.Mark.TheVariants.{Started, Finished, Aborted}
@@ -21,14 +22,14 @@ HasSmallStart (Aborted model commit) = Unit {0}
 abbrev pub StartsAreSmall : List Mark → Type 0
 StartsAreSmall marks = (mark : Mark) → IsAmong mark marks → HasSmallStart mark
 
--- At each tick of the script the local time of a started model of the active commit is within 2^52 in size, which is
--- what the phase and the curve time of a timing ask for.
+-- At each tick of the script the local time of a started model of the active commit is within `LARGEST_LOCAL` in size,
+-- which is what the phase and the curve time of a timing ask for.
 abbrev pub LocalTimesAreSmall : ScriptLists → Lanes → Type 0
 LocalTimesAreSmall script lanes =
     (tick : ℕ) → IsAmong tick (ticks_of script.compositor)
     → (model : Spec) → IsAmong model lanes.compositor.active.tree.models
     → (shown : Shown) → start_of lanes.compositor.marks model.id ≡ Some shown
-    → unsigned_abs (local_time lanes.compositor.active.tree tick model shown.start) ≤ 2 ^ 52
+    → unsigned_abs (local_time lanes.compositor.active.tree tick model shown.start) ≤ LARGEST_LOCAL
 
 -- There are at most two marks, and so two events, for each model that the script adds: a number below 2^32.
 pub record EventsAreFew (script : ScriptLists) (lanes : Lanes) : Type 0 where

@@ -196,7 +196,7 @@ dropping n j book few so =
 
 -- ---- all of main's steps
 
--- so many elements were added
+-- this number of elements was added
 abbrev pub AddedSoMany : ℕ → Book → Type 0
 AddedSoMany n book = book.elements_added ≡ n
 

@@ -64,7 +64,7 @@ all-each P f (suc n) a each =
     all-append P (f a) (flat_map f (range_with_len (a + 1) n)) (each a (omega arith) (omega arith))
     (all-each P f n (a + 1) (λ i low high. each i (omega arith) (omega arith)))
 
--- where each gives at most so many
+-- where each gives at most this number
 pub length-each : {A : Type 0} (most : ℕ) (f : ℕ → List A) → ((i : ℕ) → length (f i) ≤ most) → (n a : ℕ)
     → length (flat_map f (range_with_len a n)) ≤ n * most
 length-each most f few zero a = omega arith

@@ -35,7 +35,7 @@ key_of time easing value = record { time = time; easing = easing; value = value 
 abbrev pub translation : ℕ → List TransformOp
 translation x = Translate (pos x) (pos 0) (pos 0) ∷ []
 
--- so long a curve, so many thousandths of an iteration, in this direction
+-- a curve of this length, this number of thousandths of an iteration, in this direction
 abbrev pub timing_of : ℕ → ℕ → Direction → TimingParts
 timing_of duration iterations direction = timing_parts duration (pos 0) (Finite iterations) 0 direction Both (pos 1000)
 

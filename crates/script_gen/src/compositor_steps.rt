@@ -16,7 +16,7 @@ const TICKS_PER_ELEMENT: u32 = 4;
 /// A pull comes after each tick whose number, from 0, this divides.
 const TICKS_PER_PULL: u32 = 4;
 
-/// The compositor's steps for so many elements.
+/// The compositor's steps for this number of elements.
 #[tactic(auto, unfolding(crate::specs::Generated::compositor_steps))]
 pub(crate) fn compositor_steps(alloc: Global, n: u32) -> Result<Vec<CompositorStep>, AllocError>
     requires { n ≤ MOST_GENERATED }

@@ -26,7 +26,7 @@ const ELEMENTS_PER_DROPPED_MODEL: u32 = 5;
 /// An element goes where this divides its number.
 const ELEMENTS_PER_DROPPED_ELEMENT: u32 = 7;
 
-/// Main's steps for so many elements.
+/// Main's steps for this number of elements.
 pub(crate) fn main_steps(alloc: Global, n: u32) -> Result<Vec<MainStep>, AllocError>
     requires some { 1 ≤ n }
     requires few { n ≤ MOST_GENERATED }

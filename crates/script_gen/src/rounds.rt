@@ -6,10 +6,10 @@ ghost use Rattle.script_gen.specs.Generated.{word_of_rounds};
 use anim_names::Lane;
 use std::alloc::{AllocError, Global};
 
-/// How many steps main makes in a round, where it has so many left.
+/// How many steps main makes in a round, by how many it has left.
 const STEPS_OF_MAIN: usize = 3;
 
-/// The word of so many steps of each lane.
+/// The word of two lanes with these numbers of steps.
 pub(crate) fn word_of_rounds(
     alloc: Global,
     main: usize,

@@ -26,7 +26,7 @@ lines_first [] h = absurd (omega arith)
 lines_first (b ∷ []) h = last b (eqb b 10)
 lines_first (b ∷ c ∷ cs) h = step b (eqb b 10) (c ∷ cs) (lines_first (c ∷ cs) (omega arith))
 
--- the first place that passes, as an index with the length as its default
+-- the first item that passes, as an index with the length as its default
 pub unwrap_or-position : (text : List ℕ) → unwrap_or (position (λ b. eqb b 10) text) (length text) ≡ feed text
 unwrap_or-position text =
     let le : feed text ≤ length text = prefix_len-le-length (λ b. not (eqb b 10)) text in

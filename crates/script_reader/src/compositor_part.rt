@@ -59,7 +59,7 @@ impl CompositorPart {
         self.steps.len()
     }
 
-    /// Takes one more step, where it may be made and so many elements were ever added.
+    /// Takes one more step, where it may be made. `elements` is how many elements were ever added.
     #[tactic(auto, unfolding(frame_script::specs::States::compositor_with))]
     pub(crate) fn push(&mut self, elements: u32, step: CompositorStep) -> Result<(), LineFault>
         ensures { Gives (λ _. self.new) result (compositor_with elements self.old step) }
@@ -109,7 +109,7 @@ impl CompositorPart {
     }
 }
 
-// Whether so many ticks of so many elements would be too many frames.
+// Whether these numbers of ticks and of elements would make too many frames.
 fn are_too_many(ticks: u32, elements: u32) -> bool
     ensures { result ≡ are_too_many ticks elements }
 {

@@ -180,7 +180,7 @@ fn old_id(fields: &[&[u8]]) -> Result<u32, LineFault>
     }
 }
 
-// Whether so many fields may spell a list.
+// Whether this number of fields may spell a list.
 pub(crate) fn is_list_long(fields: &[&[u8]]) -> bool
     ensures value { result ≡ is_list_long (map (λ field. field.now) fields.now) }
     ensures short { IsTrue result → length fields.now ≤ MOST_OPERATIONS }

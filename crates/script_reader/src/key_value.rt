@@ -16,7 +16,7 @@ pub(crate) trait KeyValue: Blend + Drop {
 
     ghost said: { List (List ℕ) → Result Self Cause };
 
-    /// Whether so many fields may spell a value.
+    /// Whether this number of fields may spell a value.
     fn is_long(fields: &[&[u8]]) -> bool
         ensures { result ≡ is_long (map (λ field. field.now) fields.now) };
 

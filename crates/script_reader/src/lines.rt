@@ -17,7 +17,7 @@ pub fn split_line(text: &[u8]) -> Option<(&[u8], &[u8])>
 
 /// Where the first line ends: at the first line feed, or at the end of the text where there is none.
 fn line_end(text: &[u8]) -> usize
-    ensures place { result ≡ position_or_len (λ b. b == 10) text.now }
+    ensures index { result ≡ position_or_len (λ b. b == 10) text.now }
     ensures within { result ≤ length text.now }
 {
     line_feed(text).unwrap_or(text.len())

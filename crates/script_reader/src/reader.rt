@@ -26,7 +26,7 @@ use tree_commit::{Edit, MainStep};
 
 /// Which line may stand next, where that is no key.
 #[derive(Clone, Copy, Debug, PartialEq, Eq)]
-pub(crate) enum Place {
+pub(crate) enum ReaderStage {
     Header,
     MainPart,
     MainLines,
@@ -37,7 +37,7 @@ pub(crate) enum Place {
 
 /// The script so far, and which line may stand next.
 pub(crate) struct Reader {
-    pub(crate) place: Place,
+    pub(crate) stage: ReaderStage,
     /// The model to which the next line is to add a key.
     pub(crate) draft: Option<Draft>,
     pub(crate) main: MainPart,
@@ -48,7 +48,7 @@ pub(crate) struct Reader {
 impl Drop for Reader {
     fn drop(self) {
         let Reader {
-            place: _,
+            stage: _,
             draft: _draft,
             main: _main,
             compositor: _compositor,
@@ -63,7 +63,7 @@ impl Reader {
         ensures { IfOk result (λ reader. state_of reader ≡ state.beginning) }
     {
         Ok(Reader {
-            place: Place::Header,
+            stage: ReaderStage::Header,
             draft: None,
             main: MainPart::new(alloc)?,
             compositor: CompositorPart::new(alloc),
@@ -85,44 +85,54 @@ impl Reader {
     #[tactic(auto, unfolding(frame_script::specs::States::at_stage))]
     fn take_at_place(&mut self, alloc: Global, line: &[u8]) -> Result<(), LineFault>
         requires { self.old.draft ≡ None }
-        ensures { Gives (λ _. state_of self.new) result (state.at_stage (stage_of self.old.place) (state_of self.old).script line.now) }
+        ensures { Gives (λ _. state_of self.new) result (state.at_stage (stage_of self.old.stage) (state_of self.old).script line.now) }
     {
-        match self.place {
-            Place::Header => self.take_only("anim 1", Cause::BadHeader, Place::MainPart, line),
-            Place::MainPart => self.take_only("main", Cause::BadLine, Place::MainLines, line),
-            Place::MainLines => self.take_main(alloc, line),
-            Place::CompositorLines => self.take_compositor(alloc, line),
-            Place::End => self.take_only("end", Cause::BadLine, Place::Nothing, line),
-            Place::Nothing => Err(LineFault::Refused(Cause::BadLine)),
+        match self.stage {
+            ReaderStage::Header => self.take_only(
+                "anim 1",
+                Cause::BadHeader,
+                ReaderStage::MainPart,
+                line,
+            ),
+            ReaderStage::MainPart => self.take_only(
+                "main",
+                Cause::BadLine,
+                ReaderStage::MainLines,
+                line,
+            ),
+            ReaderStage::MainLines => self.take_main(alloc, line),
+            ReaderStage::CompositorLines => self.take_compositor(alloc, line),
+            ReaderStage::End => self.take_only("end", Cause::BadLine, ReaderStage::Nothing, line),
+            ReaderStage::Nothing => Err(LineFault::Refused(Cause::BadLine)),
         }
     }
 
-    // Exactly this line leads to the place.
+    // Exactly this line leads to the stage.
     fn take_only(
         &mut self,
         text: &str,
         cause: Cause,
-        place: Place,
+        stage: ReaderStage,
         line: &[u8],
     ) -> Result<(), LineFault>
         requires { self.old.draft ≡ None }
-        ensures { Gives (λ _. state_of self.new) result (state.only text.now cause (stage_of place) (state_of self.old).script line.now) }
+        ensures { Gives (λ _. state_of self.new) result (state.only text.now cause (stage_of stage) (state_of self.old).script line.now) }
     {
         if !is(line, text) {
             return Err(LineFault::Refused(cause));
         }
-        self.place = place;
+        self.stage = stage;
         Ok(())
     }
 
     #[tactic(auto, unfolding(frame_script::specs::States::at_stage))]
     fn take_main(&mut self, alloc: Global, line: &[u8]) -> Result<(), LineFault>
         requires draft { self.old.draft ≡ None }
-        requires place { self.old.place ≡ Place.MainLines }
+        requires stage { self.old.stage ≡ ReaderStage.MainLines }
         ensures { Gives (λ _. state_of self.new) result (state.at_stage state.InMain (state_of self.old).script line.now) }
     {
         if is(line, "compositor") {
-            self.place = Place::CompositorLines;
+            self.stage = ReaderStage::CompositorLines;
             return Ok(());
         }
         let fields = fields_of(alloc, line)?;
@@ -132,7 +142,7 @@ impl Reader {
     #[tactic(auto, unfolding(frame_script::specs::States::in_main))]
     fn take_main_fields(&mut self, alloc: Global, fields: &[&[u8]]) -> Result<(), LineFault>
         requires draft { self.old.draft ≡ None }
-        requires place { self.old.place ≡ Place.MainLines }
+        requires stage { self.old.stage ≡ ReaderStage.MainLines }
         ensures { Gives (λ _. state_of self.new) result
             (state.in_main (state_of self.old).script (map (λ field. field.now) fields.now)) }
     {
@@ -146,7 +156,7 @@ impl Reader {
     #[tactic(auto, unfolding(frame_script::specs::States::step_made))]
     fn take_step(&mut self, alloc: Global, name: &[u8], fields: &[&[u8]]) -> Result<(), LineFault>
         requires draft { self.old.draft ≡ None }
-        requires place { self.old.place ≡ Place.MainLines }
+        requires stage { self.old.stage ≡ ReaderStage.MainLines }
         ensures { Gives (λ _. state_of self.new) result
             (read_then (step_said name.now (map (λ field. field.now) fields.now)) (state.step_made (state_of self.old).script)) }
     {
@@ -201,13 +211,13 @@ impl Reader {
             Err(fault) => return Err(fault),
         };
         let spec = Arc::new(alloc, model)?;
-        self.place = Place::MainLines;
+        self.stage = ReaderStage::MainLines;
         self.main.push(MainStep::Edit(Edit::AddModel { spec }))
     }
 
     fn take_compositor(&mut self, alloc: Global, line: &[u8]) -> Result<(), LineFault>
         requires draft { self.old.draft ≡ None }
-        requires place { self.old.place ≡ Place.CompositorLines }
+        requires stage { self.old.stage ≡ ReaderStage.CompositorLines }
         ensures { Gives (λ _. state_of self.new) result
             (state.in_compositor (state_of self.old).script (fields line.now)) }
     {
@@ -218,7 +228,7 @@ impl Reader {
     #[tactic(auto, unfolding(frame_script::specs::States::in_compositor))]
     fn take_compositor_fields(&mut self, alloc: Global, fields: &[&[u8]]) -> Result<(), LineFault>
         requires draft { self.old.draft ≡ None }
-        requires place { self.old.place ≡ Place.CompositorLines }
+        requires stage { self.old.stage ≡ ReaderStage.CompositorLines }
         ensures { Gives (λ _. state_of self.new) result
             (state.in_compositor (state_of self.old).script (map (λ field. field.now) fields.now)) }
     {
@@ -232,7 +242,7 @@ impl Reader {
     #[tactic(auto, unfolding(frame_script::specs::States::compositor_made))]
     fn take_compositor_step(&mut self, name: &[u8], fields: &[&[u8]]) -> Result<(), LineFault>
         requires draft { self.old.draft ≡ None }
-        requires place { self.old.place ≡ Place.CompositorLines }
+        requires stage { self.old.stage ≡ ReaderStage.CompositorLines }
         ensures { Gives (λ _. state_of self.new) result
             (read_then (compositor_said name.now (map (λ field. field.now) fields.now)) (state.compositor_made (state_of self.old).script)) }
     {
@@ -251,7 +261,7 @@ impl Reader {
             return Err(LineFault::Refused(Cause::BadWord));
         }
         self.word = word;
-        self.place = Place::End;
+        self.stage = ReaderStage::End;
         Ok(())
     }
 
@@ -284,14 +294,14 @@ impl Reader {
         ensures { GivesScript (λ script. script) result (end_at number (state_of self).stage (state_of self).script) }
     {
         let Reader {
-            place,
+            stage,
             draft,
             main,
             compositor,
             word,
         } = self;
-        match (draft, place) {
-            (None, Place::Nothing) => {
+        match (draft, stage) {
+            (None, ReaderStage::Nothing) => {
                 Ok(Script::new(main.into_steps(), compositor.into_steps(), word))
             }
             _ => Err(ScriptFault::Refused {

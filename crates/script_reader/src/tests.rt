@@ -26,7 +26,7 @@ const FADE: [&str; 16] = [
     "end",
 ];
 
-/// So many first lines of the fade, a text so many times, and the lines behind so many first ones.
+/// The first lines of the fade up to a number, a text as often as it says, and the lines of the fade behind a number.
 #[derive(Clone, Copy)]
 struct Change(usize, &'static str, usize, usize);
 
@@ -211,7 +211,7 @@ fn the_first_wrong_line_is_refused(rt: HostRuntime) -> Result<(), Fail> {
     Ok(())
 }
 
-/// A comment of so many bytes, then the fade, and no line feed at the end.
+/// A comment of this number of bytes, then the fade, and no line feed at the end.
 fn commented(alloc: Global, count: usize) -> Result<String, AllocError> {
     let mut text = String::new(alloc);
     for _ in 0..count {

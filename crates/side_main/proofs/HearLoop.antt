@@ -14,7 +14,7 @@ rest : (events : List AnimEvent) (i : ℕ) (event : AnimEvent) → i < length ev
 rest events i event within is =
     ap (λ e. e ∷ drop (i + 1) events) is ∙ sym (drop_more events i event within)
 
--- an event more that retired so many
+-- an event more, with how many models it retired
 more : (tree : TreeLists) (event : AnimEvent) (events : List AnimEvent) (retired one : ℕ) → one ≡ (if retires tree event then 1 else 0)
     → retired + one + retired_by (tree_after_hearing tree event) events ≡ retired + retired_by tree (event ∷ events)
 unfolding retired_by
