@@ -101,7 +101,7 @@ class Runs:
 
 
 def has_ended(process, seconds):
-    """Waits for the end of a child for at most so many seconds, and returns whether it came."""
+    """Waits for the end of a child for at most this number of seconds, and returns whether it came."""
     handle = os.pidfd_open(process)
     try:
         return bool(select.select([handle], [], [], seconds)[0])
