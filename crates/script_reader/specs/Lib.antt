@@ -1,3 +1,2 @@
-pub mod LineFaults
 pub mod Views
 pub mod Books

@@ -2,13 +2,13 @@ ghost use Rattle.std.specs.Prelude.{◌≡◌, ◌+◌, ◌≤◌, [], length};
 ghost use Rattle.anim_names.specs.declared.limit.TheConstants.{MOST_STEPS};
 ghost use Rattle.tree_commit.specs.Scripts.{ticks_of};
 ghost use Rattle.frame_script.specs.Causes.{allow};
-ghost use Rattle.script_reader.specs.LineFaults.{Gives};
+ghost use Rattle.script_lines.specs.LineFaults.{Gives};
 ghost use Rattle.frame_script.specs.States.{compositor_with, compositor_refusal, tick_refusal, are_too_many};
 
-use crate::fault::LineFault;
 use anim_names::LimitName;
 use anim_names::limit::{MOST_FRAMES, MOST_STEPS};
 use frame_script::Cause;
+use script_lines::LineFault;
 use std::alloc::Global;
 use std::marker::Model;
 use tree_commit::{CompositorStep, EditRefusal};

@@ -2,12 +2,12 @@ ghost use Rattle.std.specs.Prelude.{◌≤◌};
 ghost use Rattle.std.specs.Option.{ForSome};
 ghost use Rattle.anim_timeline.specs.declared.TheConstants.{LAST_TIME};
 
-use crate::fault::LineFault;
 use crate::key_list::KeyList;
 use crate::model_with::model_with;
 use anim_names::Property;
 use frame_script::ModelLine;
 use keyframe_model::{CurveOf, ModelSpec};
+use script_lines::LineFault;
 use std::alloc::Global;
 use transform_ops::TransformList;
 use value_blend::Opacity;
@@ -29,7 +29,7 @@ pub(crate) struct Draft {
 
 impl Draft {
     ghost use Rattle.std.specs.Prelude.{◌≡◌, ◌==◌, map, OnOk};
-    ghost use Rattle.script_reader.specs.LineFaults.{Gives};
+    ghost use Rattle.script_lines.specs.LineFaults.{Gives};
     ghost use Rattle.frame_script.specs.States.{no_keys, keys_with, key_count, model_through};
     ghost use Rattle.script_reader.specs.Views.{keys_of};
 

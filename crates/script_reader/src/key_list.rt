@@ -1,16 +1,14 @@
 ghost use Rattle.std.specs.Prelude.{◌≡◌, ◌≤◌, [], length, map, IfOk};
 ghost use Rattle.curve_keys.specs.Curves.{duration_of};
 ghost use Rattle.micro_time.specs.declared.TheConstants.{LONGEST_DURATION};
-ghost use Rattle.script_reader.specs.LineFaults.{Gives, read_then};
+ghost use Rattle.script_lines.specs.LineFaults.{Gives, read_then};
 ghost use Rattle.frame_script.specs.Said.{key_said};
 ghost use Rattle.frame_script.specs.States.{is_next_time, with_key, taken_curve};
 
-use crate::fault::LineFault;
-use crate::key_said::key_said;
-use crate::key_value::KeyValue;
 use curve_keys::{Curve, Key};
 use easing_fixed::Easing;
 use frame_script::Cause;
+use script_lines::{KeyValue, LineFault, key_said};
 use std::alloc::Global;
 use std::marker::Model;
 

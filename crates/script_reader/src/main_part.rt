@@ -3,13 +3,13 @@ ghost use Rattle.script_reader.specs.Books.{elements_of};
 ghost use Rattle.tree_commit.specs.Scripts.{EditStep, CommitStep, book_of, book_after_step};
 ghost use Rattle.tree_commit.specs.Views.{change_of, step_of};
 ghost use Rattle.frame_script.specs.Causes.{demand, allow};
-ghost use Rattle.script_reader.specs.LineFaults.{Gives};
+ghost use Rattle.script_lines.specs.LineFaults.{Gives};
 ghost use Rattle.frame_script.specs.States.{has_room, main_with, model_allowed, names_refusal, step_refusal};
 
-use crate::fault::LineFault;
 use anim_names::LimitName;
 use anim_names::limit::{MOST_COMMITS, MOST_STEPS};
 use frame_script::{Cause, ModelNames};
+use script_lines::LineFault;
 use std::alloc::{AllocError, Global};
 use std::marker::Model;
 use tree_commit::{Edit, EditBook, EditRefusal, MainStep};

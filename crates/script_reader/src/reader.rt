@@ -2,7 +2,7 @@
 
 ghost use Rattle.std.specs.Prelude.{◌≡◌, None, map, IfOk};
 ghost use Rattle.script_fields.specs.Fields.{fields};
-ghost use Rattle.script_reader.specs.LineFaults.{Gives, read_then};
+ghost use Rattle.script_lines.specs.LineFaults.{Gives, read_then};
 ghost use Rattle.frame_script.specs.Said.{step_said, model_said, compositor_said, word_said};
 ghost use Rattle.frame_script.specs.Reading.{GivesScript, numbered, end_at};
 ghost use Rattle.frame_script.specs.States as state;
@@ -10,16 +10,13 @@ ghost use Rattle.tree_commit.specs.Scripts.{IsWellFormed};
 ghost use Rattle.script_reader.specs.Views.{keys_of, stage_of, state_of};
 
 use crate::compositor_part::CompositorPart;
-use crate::compositor_said::{compositor_said, word_said};
 use crate::draft::Draft;
-use crate::edit_said::step_said;
-use crate::fault::LineFault;
 use crate::lines::is_skipped;
 use crate::main_part::MainPart;
-use crate::model_said::model_said;
 use anim_names::Lane;
 use frame_script::{Cause, Script, ScriptFault, is_word_of};
 use script_fields::{fields_of, is};
+use script_lines::{LineFault, compositor_said, model_said, step_said, word_said};
 use std::alloc::{AllocError, Global};
 use std::sync::Arc;
 use tree_commit::{Edit, MainStep};

@@ -2,8 +2,8 @@
 use Rattle.std.specs.Prelude.{◌≡◌, Result, Ok, Err}
 use Rattle.script_fields.specs.Fields.{◌>>=◌}
 use Rattle.frame_script.specs.declared.cause.Cause.{Cause}
-use Rattle.script_reader.specs.declared.fault.LineFault.{LineFault}
-use Rattle.script_reader.specs.declared.fault.LineFault.TheVariants as line
+use Rattle.script_lines.specs.declared.fault.LineFault.{LineFault}
+use Rattle.script_lines.specs.declared.fault.LineFault.TheVariants as line
 
 -- what follows from what was read, as a word of clauses
 abbrev pub read_then : {A B : Type 0} → Result A Cause → (A → Result B Cause) → Result B Cause

@@ -1,11 +1,11 @@
 //! The lines of the compositor's steps and of the word, by their fields.
 
 ghost use Rattle.std.specs.Prelude.{◌≡◌, map};
-ghost use Rattle.script_reader.specs.LineFaults.{Gives};
+ghost use Rattle.script_lines.specs.LineFaults.{Gives};
 ghost use Rattle.frame_script.specs.Said as said;
 
-use crate::edit_said::alone;
 use crate::fault::LineFault;
+use crate::main_line::alone;
 use anim_names::Lane;
 use frame_script::Cause;
 use script_fields::is;
@@ -16,7 +16,7 @@ use tree_commit::CompositorStep;
 
 /// A step of the compositor: its name, and the further fields of its line.
 #[tactic(auto, unfolding(frame_script::specs::Said::compositor_said))]
-pub(crate) fn compositor_said(name: &[u8], fields: &[&[u8]]) -> Result<CompositorStep, LineFault>
+pub fn compositor_said(name: &[u8], fields: &[&[u8]]) -> Result<CompositorStep, LineFault>
     ensures { Gives (λ step. step) result (said.compositor_said name.now (map (λ field. field.now) fields.now)) }
 {
     if is(name, "pull") {
@@ -42,7 +42,7 @@ fn tick_said(fields: &[&[u8]]) -> Result<CompositorStep, LineFault>
 }
 
 /// The letters of a word, by the further fields of its line.
-pub(crate) fn word_said(alloc: Global, fields: &[&[u8]]) -> Result<Vec<Lane>, LineFault>
+pub fn word_said(alloc: Global, fields: &[&[u8]]) -> Result<Vec<Lane>, LineFault>
     ensures { Gives (λ word. word.items) result (said.word_said (map (λ field. field.now) fields.now)) }
 {
     match fields {

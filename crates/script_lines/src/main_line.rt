@@ -4,7 +4,7 @@ ghost use Rattle.std.specs.Prelude.{◌≡◌, ◌≤◌, length, map, IsTrue};
 ghost use Rattle.transform_ops.specs.declared.TheConstants.{MOST_OPERATIONS};
 ghost use Rattle.tree_commit.specs.Views.{change_of, step_of};
 ghost use Rattle.frame_script.specs.Causes.{caused};
-ghost use Rattle.script_reader.specs.LineFaults.{Gives};
+ghost use Rattle.script_lines.specs.LineFaults.{Gives};
 ghost use Rattle.frame_script.specs.Said as said;
 ghost use Rattle.script_fields.specs.Lists.{is_list_long, list_read};
 
@@ -20,7 +20,7 @@ use tree_commit::{Base, Edit, MainStep};
 
 /// A step of main other than the adding of a model: its name, and the further fields of its line.
 #[tactic(auto, unfolding(frame_script::specs::Said::step_said))]
-pub(crate) fn step_said(alloc: Global, name: &[u8], fields: &[&[u8]]) -> Result<MainStep, LineFault>
+pub fn step_said(alloc: Global, name: &[u8], fields: &[&[u8]]) -> Result<MainStep, LineFault>
     ensures { Gives step_of result (said.step_said name.now (map (λ field. field.now) fields.now)) }
 {
     if is(name, "commit") {

@@ -2,7 +2,7 @@
 
 ghost use Rattle.std.specs.Prelude.{◌≡◌, ◌≤◌, map, IfOk, IfSome};
 ghost use Rattle.anim_timeline.specs.declared.TheConstants.{LAST_TIME};
-ghost use Rattle.script_reader.specs.LineFaults.{Gives};
+ghost use Rattle.script_lines.specs.LineFaults.{Gives};
 ghost use Rattle.frame_script.specs.Said as said;
 
 use crate::fault::LineFault;
@@ -20,7 +20,7 @@ const FIELDS: usize = 15;
 
 /// What the line of a model says, by the fields behind its name.
 #[tactic(auto, unfolding(frame_script::specs::Said::model_said))]
-pub(crate) fn model_said(alloc: Global, fields: &[&[u8]]) -> Result<ModelLine, LineFault>
+pub fn model_said(alloc: Global, fields: &[&[u8]]) -> Result<ModelLine, LineFault>
     ensures value { Gives (λ line. line) result (said.model_said (map (λ field. field.now) fields.now)) }
     ensures start { IfOk result (λ line. IfSome line.names.start (λ time. time ≤ LAST_TIME)) }
 {

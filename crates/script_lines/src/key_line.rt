@@ -2,7 +2,7 @@
 
 ghost use Rattle.std.specs.Prelude.{◌≡◌, ◌≤◌, true, map, IfOk};
 ghost use Rattle.micro_time.specs.declared.TheConstants.{LONGEST_DURATION};
-ghost use Rattle.script_reader.specs.LineFaults.{Gives};
+ghost use Rattle.script_lines.specs.LineFaults.{Gives};
 ghost use Rattle.frame_script.specs.Said as said;
 
 use crate::fault::LineFault;
@@ -15,7 +15,7 @@ use std::alloc::Global;
 
 /// The key that a whole line says, whether its time may come next or not.
 #[tactic(auto, unfolding(frame_script::specs::Said::key_said))]
-pub(crate) fn key_said<V: KeyValue>(alloc: Global, fields: &[&[u8]]) -> Result<Key<V>, LineFault>
+pub fn key_said<V: KeyValue>(alloc: Global, fields: &[&[u8]]) -> Result<Key<V>, LineFault>
     ensures value { Gives (λ key. key) result (said.key_said V.is_long V.said (map (λ field. field.now) fields.now)) }
     ensures time { IfOk result (λ key. key.time ≤ LONGEST_DURATION) }
 {

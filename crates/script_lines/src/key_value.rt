@@ -1,9 +1,9 @@
 ghost use Rattle.std.specs.Prelude.{◌≡◌, ℕ, Bool, true, List, Result, map};
 ghost use Rattle.frame_script.specs.declared.cause.Cause.{Cause};
-ghost use Rattle.script_reader.specs.LineFaults.{Gives};
+ghost use Rattle.script_lines.specs.LineFaults.{Gives};
 
-use crate::edit_said::{is_list_long, list_at};
 use crate::fault::LineFault;
+use crate::main_line::{is_list_long, list_at};
 use frame_script::Cause;
 use script_fields::values::opacity_said;
 use std::alloc::Global;
@@ -11,7 +11,7 @@ use transform_ops::TransformList;
 use value_blend::{Blend, Opacity};
 
 /// A value that the line of a key may end with.
-pub(crate) trait KeyValue: Blend + Drop {
+pub trait KeyValue: Blend + Drop {
     ghost is_long: { List (List ℕ) → Bool };
 
     ghost said: { List (List ℕ) → Result Self Cause };

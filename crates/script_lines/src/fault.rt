@@ -1,15 +1,17 @@
 //! Why a line could not be read.
 
 ghost use Rattle.std.specs.Prelude.{◌≡◌};
-ghost use Rattle.script_reader.specs.declared.fault.LineFault.TheVariants as line;
+ghost use Rattle.script_lines.specs.declared.fault.LineFault.TheVariants as line;
 
 use frame_script::Cause;
 use std::alloc::{AllocError, AllocFailed};
 
 /// Why a line could not be read.
 #[derive(Clone, Copy, Debug, PartialEq, Eq)]
-pub(crate) enum LineFault {
+pub enum LineFault {
+    /// The line is refused for this cause.
     Refused(Cause),
+    /// There was no memory for what the line says.
     NoMemory,
 }
 

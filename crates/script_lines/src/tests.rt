@@ -1,0 +1,70 @@
+use super::*;
+use anim_delegate::Policy;
+use anim_names::{ElementId, Lane, ModelId, Property};
+use frame_script::Cause;
+use script_fields::fields_of;
+use std::test::Fail;
+use tree_commit::{CompositorStep, Edit, MainStep};
+use value_blend::Opacity;
+
+fn is_shared<T: Send + Sync>() {}
+
+#[test]
+fn types_are_shared_between_threads() {
+    is_shared::<LineFault>();
+}
+
+#[test]
+fn a_step_of_main_is_read(rt: HostRuntime) -> Result<(), Fail> {
+    let fields = fields_of(rt.alloc(), b"3 250000")?;
+    let step = step_said(rt.alloc(), b"opacity", &fields);
+    let Ok(MainStep::Edit(Edit::SetOpacity { id, opacity })) = &step else {
+        return Err(Fail::from("no opacity is set"));
+    };
+    assert!(rt; *id == ElementId(3));
+    assert!(rt; opacity.get() == 250_000);
+    Ok(())
+}
+
+#[test]
+fn a_step_of_the_compositor_is_read(rt: HostRuntime) -> Result<(), Fail> {
+    let fields = fields_of(rt.alloc(), b"16000")?;
+    assert!(rt; compositor_said(b"tick", &fields) == Ok(CompositorStep::Tick(16_000)));
+    assert!(rt; compositor_said(b"pull", &fields) == Err(LineFault::Refused(Cause::BadLine)));
+    Ok(())
+}
+
+#[test]
+fn the_word_is_read(rt: HostRuntime) -> Result<(), Fail> {
+    let fields = fields_of(rt.alloc(), b"MC")?;
+    let Ok(word) = word_said(rt.alloc(), &fields) else {
+        return Err(Fail::from("no word"));
+    };
+    assert!(rt; word.as_slice() == [Lane::Main, Lane::Compositor].as_slice());
+    Ok(())
+}
+
+#[test]
+fn a_model_is_read(rt: HostRuntime) -> Result<(), Fail> {
+    let text = b"7 1 1 1 opacity - 0 1000 0 normal none 1000 auto linear 2";
+    let fields = fields_of(rt.alloc(), text)?;
+    let Ok(line) = model_said(rt.alloc(), &fields) else {
+        return Err(Fail::from("no model"));
+    };
+    assert!(rt; line.names.id == ModelId(7));
+    assert!(rt; line.names.property == Property::Opacity);
+    assert!(rt; line.policy == Policy::Auto);
+    assert!(rt; line.keys == 2);
+    Ok(())
+}
+
+#[test]
+fn a_key_is_read(rt: HostRuntime) -> Result<(), Fail> {
+    let fields = fields_of(rt.alloc(), b"key 1000 linear 500000")?;
+    let Ok(key) = key_said::<Opacity>(rt.alloc(), &fields) else {
+        return Err(Fail::from("no key"));
+    };
+    assert!(rt; key.time == 1000);
+    assert!(rt; key.value.get() == 500_000);
+    Ok(())
+}
