@@ -16,9 +16,9 @@ use tree_commit::{Commit, Frame, FrameRow, StartTable};
 /// The commit that is drawn.
 ///
 /// The compositor has one active tree, on its own thread, and there is always a commit in it. It draws frames and does
-/// not know which models start, finish or are aborted: it asks a table of starts. A frame costs its rows and one look at
-/// each model that animates one of its elements; the first frame of a commit also sorts the commit's models by element.
-/// A contract sees the active commit.
+/// not know which models start, finish or are aborted: it asks a table of starts. A frame costs its rows and one look
+/// at each model that animates one of its elements; the first frame of a commit also sorts the commit's models by
+/// element. A contract sees the active commit.
 pub struct ActiveTree {
     alloc: Global,
     commit: Arc<Commit>,

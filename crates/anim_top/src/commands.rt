@@ -21,9 +21,9 @@ use std::thread::Threads;
 
 /// Does what the arguments ask for. The number of the status is what the program ends with.
 ///
-/// `run` reads a script from the source, runs its two lanes at once, each in a thread of its own, and writes the report, or
-/// the refusal of the first line that is refused. Before each step of a lane the lane passes the gate. `run` may wait for
-/// the lock between the lanes. All else is done by [`plain_command`].
+/// `run` reads a script from the source, runs its two lanes at once, each in a thread of its own, and writes the
+/// report, or the refusal of the first line that is refused. Before each step of a lane the lane passes the gate. `run`
+/// may wait for the lock between the lanes. All else is done by [`plain_command`].
 pub fn command<
     R: Threads + Wait + Sync,
     S: Source,
@@ -48,14 +48,15 @@ pub fn command<
     ensures unread { IsSomeAnd (command_of (map string_bytes arguments.now)) (λ c. ¬ ReadsScript c)
         → (source.new ≡ source.old) × (result ≢ Status.ReadFault) }
 
-    // The command was done, and the sink took its output and nothing else. The source's bytes, read to their end, spell a
-    // script. Of `run` the output is the report that the definitions give for that script and some word of it, which orders
-    // the steps of both lanes; and the laws of runs are true of that word. Of `replay` it is the report for the script's own
-    // word.
+    // The command was done, and the sink took its output and nothing else. The source's bytes, read to their end, spell
+    // a script. Of `run` the output is the report that the definitions give for that script and some word of it, which
+    // orders the steps of both lanes; and the laws of runs are true of that word. Of `replay` it is the report for the
+    // script's own word.
     ensures done { result ≡ Status.Done → IsSomeAnd (command_of (map string_bytes arguments.now)) (λ c.
         IsDone c (S.left source.old) (S.left source.new) (K.taken sink.old) (K.taken sink.new)) }
 
-    // A script was read, the bytes are refused at this line for this cause, and the sink took the refusal and nothing else.
+    // A script was read, the bytes are refused at this line for this cause, and the sink took the refusal and nothing
+    // else.
     ensures refused { (line : ℕ) (cause : Cause) → result ≡ Status.Refused line cause
         → IsSomeAnd (command_of (map string_bytes arguments.now)) ReadsScript
         × IsRefused (S.left source.old) (S.left source.new) (K.taken sink.old) (K.taken sink.new) line cause }
@@ -106,7 +107,8 @@ pub fn plain_command<S: Source, K: Sink, F: VerdictFunction, E: EasingFunction>(
     ensures done { result ≡ Status.Done → IsSomeAnd (plain (command_of (map string_bytes arguments.now))) (λ c.
         IsDone c (S.left source.old) (S.left source.new) (K.taken sink.old) (K.taken sink.new)) }
 
-    // A script was read, the bytes are refused at this line for this cause, and the sink took the refusal and nothing else.
+    // A script was read, the bytes are refused at this line for this cause, and the sink took the refusal and nothing
+    // else.
     ensures refused { (line : ℕ) (cause : Cause) → result ≡ Status.Refused line cause
         → IsSomeAnd (plain (command_of (map string_bytes arguments.now))) ReadsScript
         × IsRefused (S.left source.old) (S.left source.new) (K.taken sink.old) (K.taken sink.new) line cause }
@@ -133,7 +135,8 @@ pub fn plain_command<S: Source, K: Sink, F: VerdictFunction, E: EasingFunction>(
     }
 }
 
-// Reads a script from the source, and writes its report for the word in which its lanes met, or its refusal, to the sink.
+// Reads a script from the source, and writes its report for the word in which its lanes met, or its refusal, to the
+// sink.
 fn run_source<
     R: Threads + Wait + Sync,
     S: Source,

@@ -377,8 +377,8 @@ const REFUSED: &str = "anim 3\n";
 
 const REFUSAL: &str = "refused: line 1: BadHeader\n";
 
-/// What the program answers on one thread where a call moves at most 16 bytes, and what it wrote. The calls of the source
-/// with the first numbers fail, and those of the sink with the second.
+/// What the program answers on one thread where a call moves at most 16 bytes, and what it wrote. The calls of the
+/// source with the first numbers fail, and those of the sink with the second.
 fn in_pieces(
     alloc: Global,
     arguments: &str,

@@ -39,7 +39,8 @@ fn main(rt: HostRuntime) -> ExitCode {
     ExitCode::from(status.number())
 }
 
-/// Answers the arguments over a source and a sink, with these two functions as hooks, and with no gate before the steps.
+/// Answers the arguments over a source and a sink, with these two functions as hooks, and with no gate before the
+/// steps.
 fn answer_with<
     R: Threads + Wait + Sync,
     S: Source,

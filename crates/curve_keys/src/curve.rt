@@ -15,7 +15,8 @@ use value_blend::Blend;
 /// The time of a curve's first key.
 const BEGIN: u64 = 0;
 
-/// How a value changes in time: [`FEWEST_KEYS`] to [`MOST_KEYS`] keys in order of their times, the first of which is at time 0.
+/// How a value changes in time: [`FEWEST_KEYS`] to [`MOST_KEYS`] keys in order of their times, the first of which is at
+/// time 0.
 ///
 /// The curve's own easing bends the time before a value is looked up. Contracts see a curve as its keys and its
 /// easing; `curve_value` of them is the value at a time.

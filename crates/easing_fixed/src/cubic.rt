@@ -115,8 +115,8 @@ impl CubicShape {
         curve::level(self.y1, self.y2, curve::place(self.x1, self.x2, p))
     }
 
-    /// The same as [`CubicShape::value`], in less than half its time: the start table leaves a sixteenth of the curve to
-    /// search, and each look aims at where the curve should be as far across as p.
+    /// The same as [`CubicShape::value`], in less than half its time: the start table leaves a sixteenth of the curve
+    /// to search, and each look aims at where the curve should be as far across as p.
     #[tactic(auto, unfolding(crate::specs::Cubics::cubic_value))]
     pub fn quick_value(&self, p: u32) -> i64
         requires { p ≤ ONE }

@@ -71,8 +71,8 @@ fn later_half(starts: &[u32; START_COUNT], low: usize, width: usize, bound: u32)
     if starts[middle] <= bound { middle } else { low }
 }
 
-// How many steps take the curve on by one, from an interval's two numbers. A pace is in 2^-32 steps, and by one step the
-// curve goes on in units of 2^44.
+// How many steps take the curve on by one, from an interval's two numbers. A pace is in 2^-32 steps, and by one step
+// the curve goes on in units of 2^44.
 fn pace_of(begin: u32, end: u32) -> i64 {
     i64::from(u32::MAX / (end.saturating_sub(begin) >> 12).max(1))
 }

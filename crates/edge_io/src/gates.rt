@@ -25,8 +25,8 @@ impl Gate for IdleGate {
     fn pass(&self, _lane: Lane, _step: u32) {}
 }
 
-/// A gate for tests that shows whether two lanes were under way at once. Before its first step each lane waits until the
-/// other has come there too. It gives up after 200,000,000 looks, which take some seconds. A gate serves one run.
+/// A gate for tests that shows whether two lanes were under way at once. Before its first step each lane waits until
+/// the other has come there too. It gives up after 200,000,000 looks, which take some seconds. A gate serves one run.
 #[derive(Drop)]
 pub struct MeetGate {
     meeting: Meeting,
@@ -65,8 +65,8 @@ impl Gate for MeetGate {
 }
 
 /// A gate for tests that makes a run take one of a few orders: the compositor begins once main has come to the step
-/// `first`, and there main waits until the compositor has come to its step 3. Each gives up after 200,000,000 looks, which
-/// take some seconds. A gate serves one run.
+/// `first`, and there main waits until the compositor has come to its step 3. Each gives up after 200,000,000 looks,
+/// which take some seconds. A gate serves one run.
 #[derive(Drop)]
 pub struct HoldGate {
     meeting: Meeting,

@@ -7,9 +7,9 @@
 //! A [`Gate`] stands before the steps of lanes that run side by side. It may take time and nothing else, and no
 //! clause says what a gate does.
 //!
-//! No type here knows a script, a report or a line, and none keeps the reason of a failure. A source and a sink may move
-//! to another thread and belong to one thread at a time: the program uses both on the thread that called it, the source
-//! before its lanes run and the sink after they ended. A gate is shared by both lanes.
+//! No type here knows a script, a report or a line, and none keeps the reason of a failure. A source and a sink may
+//! move to another thread and belong to one thread at a time: the program uses both on the thread that called it, the
+//! source before its lanes run and the sink after they ended. A gate is shared by both lanes.
 #![tactic(auto)]
 
 mod call;

@@ -6,7 +6,8 @@ use crate::Failed;
 /// Where bytes go.
 ///
 /// The meaning `taken` is the bytes that were taken, where the sink tells them. The meaning `faults` is how many faults
-/// it had; it never falls. A sink takes nothing back, and it may take less than it is given: the caller writes the rest.
+/// it had; it never falls. A sink takes nothing back, and it may take less than it is given: the caller writes the
+/// rest.
 pub trait Sink {
     ghost taken: { Self → Option (List ℕ) };
 

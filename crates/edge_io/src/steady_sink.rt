@@ -6,8 +6,8 @@ use crate::{Failed, Sink};
 use std::alloc::{AllocError, Global};
 use std::marker::Model;
 
-/// A sink over memory that never fails. It takes each piece whole, and keeps a piece that fits in the room that is left.
-/// It tells its bytes until a piece does not fit, and never again.
+/// A sink over memory that never fails. It takes each piece whole, and keeps a piece that fits in the room that is
+/// left. It tells its bytes until a piece does not fit, and never again.
 #[derive(Debug, Drop)]
 pub struct SteadySink {
     bytes: Vec<u8>,

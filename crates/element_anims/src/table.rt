@@ -45,9 +45,9 @@ impl ElementAnims {
         })
     }
 
-    /// Takes memory for elements to come: afterwards what is said of this number of elements that are not known yet
-    /// is kept without memory. An element is known while it is in a tree or a property of it is blocked. Where there is no memory
-    /// for them, the table says what it said.
+    /// Takes memory for elements to come: afterwards what is said of this number of elements that are not known yet is
+    /// kept without memory. An element is known while it is in a tree or a property of it is blocked. Where there is no
+    /// memory for them, the table says what it said.
     pub fn reserve(&mut self, elements: u32) -> Result<(), AllocError>
         ensures room { OnOk result (elements ≤ self.new.room) }
         ensures kept { self.old.room ≤ self.new.room }
@@ -63,7 +63,8 @@ impl ElementAnims {
         self.rows.capacity() - self.rows.len()
     }
 
-    /// Says whether a tree has the element. It takes no memory: there must be room for one that is put in and not known.
+    /// Says whether a tree has the element. It takes no memory: there must be room for one that is put in and not
+    /// known.
     pub fn set_present(&mut self, tree: Tree, element: ElementId, there: bool)
         requires { there ≡ true → HasRoomFor self.old element }
         ensures set { IsSetPresent tree element there self.old self.new }

@@ -144,8 +144,8 @@ impl Board {
         }
     }
 
-    /// Puts the next commit into the mailbox, in place of one that was not pulled. Main calls it in the step that `upto`
-    /// counts to.
+    /// Puts the next commit into the mailbox, in place of one that was not pulled. Main calls it in the step that
+    /// `upto` counts to.
     pub fn publish(&mut self, upto: u32, commit: Arc<Commit>)
         requires room { 0 < self.old.room }
         requires later { last_upto Lane.Main self.old.entries < upto }
@@ -222,8 +222,8 @@ impl Board {
         self.events.send_all(events);
     }
 
-    /// Appends all events that no drain has given to `into`, in order, and says how many they were. Main calls it in the
-    /// step that `upto` counts to.
+    /// Appends all events that no drain has given to `into`, in order, and says how many they were. Main calls it in
+    /// the step that `upto` counts to.
     pub fn drain(&mut self, upto: u32, into: &mut Vec<AnimEvent>) -> usize
         requires room { 0 < self.old.room }
         requires later { last_upto Lane.Main self.old.entries < upto }

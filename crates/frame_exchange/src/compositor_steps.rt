@@ -21,8 +21,8 @@ use tree_commit::Frame;
 pub trait CompositorSteps: Drop {
     ghost state: { Self → CompositorState };
 
-    /// Pulls, in this lane's next step, and says whether that found a commit. It finds none exactly where one is pending
-    /// or the newest was pulled already.
+    /// Pulls, in this lane's next step, and says whether that found a commit. It finds none exactly where one is
+    /// pending or the newest was pulled already.
     fn pull(&mut self, board: &mut Board) -> bool
         requires complete { IsCompositorComplete (state self.old) }
         requires steps { (state self.old).steps < MOST_STEPS }

@@ -1,8 +1,8 @@
-//! The board between main and the compositor: a mailbox for the newest commit, the events that were sent, and the journal
-//! of all that the two did with them.
+//! The board between main and the compositor: a mailbox for the newest commit, the events that were sent, and the
+//! journal of all that the two did with them.
 //!
-//! To the layer above it promises that each call answers as the entries before it say, makes exactly one entry of
-//! its own and takes no memory, and that the word of a journal can be read off it. The two traits are the calls of which
+//! To the layer above it promises that each call answers as the entries before it say, makes exactly one entry of its
+//! own and takes no memory, and that the word of a journal can be read off it. The two traits are the calls of which
 //! the lanes' steps are made, whoever keeps the trees.
 #![tactic(auto)]
 

@@ -18,8 +18,8 @@ use tree_commit::{Commit, Edit, EditFault};
 ///
 /// An edit step is [`MainSteps::edit`]. A commit step is [`MainSteps::build`], and then [`MainSteps::publish`] on the
 /// board. A drain step is [`MainSteps::drain`] on the board, and then [`MainSteps::hear`]. When both lanes have ended,
-/// [`MainSteps::drain_last`] and [`MainSteps::hear`] close the run, which is no step. The first call of a step asks that
-/// the step before is complete. Only the calls on the board meet the other lane, and none of these takes memory.
+/// [`MainSteps::drain_last`] and [`MainSteps::hear`] close the run, which is no step. The first call of a step asks
+/// that the step before is complete. Only the calls on the board meet the other lane, and none of these takes memory.
 pub trait MainSteps: Drop {
     ghost state: { Self → MainState };
 

@@ -36,8 +36,9 @@ pub fn spelled_scripts_are_well_formed()
     ensures { (bytes : List ℕ) (script : ScriptLists) → Spells bytes script → IsWellFormed script }
 {}
 
-/// A line that is refused depends on the lines up to it alone, whatever stands behind: in a text that has the same lines
-/// so far it is refused too. Each line before it is allowed where it stands; where a part is missing, that is so of all.
+/// A line that is refused depends on the lines up to it alone, whatever stands behind: in a text that has the same
+/// lines so far it is refused too. Each line before it is allowed where it stands; where a part is missing, that is so
+/// of all.
 pub fn refusals_depend_on_earlier_lines()
     ensures same { (text other : List (List ℕ)) (number : ℕ) (cause : Cause) → IsWrongAt text number cause
         → take number text ≡ take number other → IsWrongAt other number cause }

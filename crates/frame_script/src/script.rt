@@ -79,7 +79,8 @@ impl Script {
         self.word.as_slice()
     }
 
-    /// Puts another word in place of the script's, where it has a letter for each step of each lane; says whether it did.
+    /// Puts another word in place of the script's, where it has a letter for each step of each lane; says whether it
+    /// did.
     pub fn replace_word(&mut self, word: &[Lane]) -> Result<bool, AllocError>
         ensures exact { IfOk result (λ replaced. IsTrue replaced ↔ IsWordOf (length self.old.main) (length self.old.compositor) word.now) }
         ensures replaced { result ≡ Ok true → self.new ≡ record self.old { word = word.now } }

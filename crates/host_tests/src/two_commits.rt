@@ -192,7 +192,8 @@ fn a_model_that_goes_is_aborted_by_the_activation(rt: HostRuntime) -> Result<(),
     )
 }
 
-// The second commit of a script is pulled before the first of these ticks and becomes active behind it, with these news.
+// The second commit of a script is pulled before the first of these ticks and becomes active behind it, with these
+// news.
 fn expect_script(
     rt: &impl Abort,
     alloc: Global,

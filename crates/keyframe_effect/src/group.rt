@@ -23,8 +23,8 @@ pub struct GroupRow {
 }
 
 impl GroupRow {
-    /// Whether the group may start in this tick, by the table of both trees. `pending_holds` says whether a pending commit
-    /// stands and has a model of the group.
+    /// Whether the group may start in this tick, by the table of both trees. `pending_holds` says whether a pending
+    /// commit stands and has a model of the group.
     #[tactic(auto, unfolding(crate::specs::Ready::is_ready))]
     pub fn ready(&self, table: &ElementAnims, pending_holds: bool) -> bool
         ensures { result ≡ is_ready self.now table.now pending_holds }

@@ -31,8 +31,8 @@ impl Drop for ModelRow {
 }
 
 impl ModelRow {
-    /// It runs from now on. Its local time counts from `start`, in microseconds of its timeline, and `order` is the place
-    /// of its start among all marks.
+    /// It runs from now on. Its local time counts from `start`, in microseconds of its timeline, and `order` is the
+    /// place of its start among all marks.
     pub fn start(&mut self, start: i64, order: u32)
         requires { self.old.state ≡ RunState.Waiting }
         ensures { self.new ≡ record self.old { state = RunState.Running start order } }

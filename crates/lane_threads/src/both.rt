@@ -26,11 +26,11 @@ use std::thread::Threads;
 use tree_commit::Frame;
 use word_machine::close;
 
-/// Makes the steps of both lanes, the compositor's in a thread of its own beside the caller's, and then the closing drain; and
-/// gives the report, with the word in which the lanes met.
+/// Makes the steps of both lanes, the compositor's in a thread of its own beside the caller's, and then the closing
+/// drain; and gives the report, with the word in which the lanes met.
 ///
-/// The two lanes meet behind one lock round the board. It may wait for that lock. Where a lane finds no memory it ends, and
-/// the other lane goes on to its own end.
+/// The two lanes meet behind one lock round the board. It may wait for that lock. Where a lane finds no memory it ends,
+/// and the other lane goes on to its own end.
 pub fn run_lanes<M: MainSteps, C: CompositorSteps + Send, G: Gate + Sync, R: Threads + Wait + Sync>(
     rt: &R,
     alloc: Global,
@@ -81,8 +81,8 @@ struct Desk<'a, 's> {
     seat: LaneSeat<LaneBoard<'s>>,
 }
 
-// Makes all steps of both lanes: the compositor's in a thread of its own, and main's in this one. Each lane gives its seat and
-// its side back.
+// Makes all steps of both lanes: the compositor's in a thread of its own, and main's in this one. Each lane gives its
+// seat and its side back.
 fn join_lanes<
     'a,
     's,

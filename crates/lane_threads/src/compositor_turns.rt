@@ -22,9 +22,9 @@ use tree_commit::{CompositorStep, Frame};
 
 /// Makes all of the compositor's steps, and gives the frames of its ticks.
 ///
-/// Before each step it passes the gate. A pull has one section of the lock, and so has a tick or an activation that made
-/// marks; each has one call on the board, and all else is made outside. It may wait for the lock. Where memory runs out
-/// the lane ends: the seat comes back, and nothing more is said of the side.
+/// Before each step it passes the gate. A pull has one section of the lock, and so has a tick or an activation that
+/// made marks; each has one call on the board, and all else is made outside. It may wait for the lock. Where memory
+/// runs out the lane ends: the seat comes back, and nothing more is said of the side.
 pub fn compositor_lane<'s, C: CompositorSteps, G: Gate, R: Wait>(
     rt: &R,
     alloc: Global,
@@ -39,12 +39,12 @@ pub fn compositor_lane<'s, C: CompositorSteps, G: Gate, R: Wait>(
     requires models { model_count script.now ≤ (C.state side.old).models }
     ensures lock { result.0.lock ≡ lock.now }
 
-    // The seat's journal is the history of the run after its own word, and the compositor's entries in it are those of its
-    // steps.
+    // The seat's journal is the history of the run after its own word, and the compositor's entries in it are those of
+    // its steps.
     ensures seat { IsSeatOf script.now Lane.Compositor result.0 }
 
-    // The side and the frames are those of the run after that word and the compositor's last steps, which left the board as
-    // it was, however many steps main has made meanwhile; and no step of the compositor is left.
+    // The side and the frames are those of the run after that word and the compositor's last steps, which left the
+    // board as it was, however many steps main has made meanwhile; and no step of the compositor is left.
     ensures knows { IfOk result.1 (λ frames. KnowsCompositor script.now result.0 (C.state side.new) frames.items) }
     ensures all { OnOk result.1 ((C.state side.new).steps ≡ length script.now.compositor) }
 {

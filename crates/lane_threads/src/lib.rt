@@ -2,8 +2,8 @@
 //!
 //! To the layer above it promises that the report of [`run_lanes`] is the one that the definitions of runs give for the
 //! script and the report's own word, that this word orders the steps of both lanes, and that the laws of runs are true
-//! of it. It knows each lane by the calls of its steps alone, whichever types have them. Nothing is promised of time, of
-//! fairness, or of who comes first.
+//! of it. It knows each lane by the calls of its steps alone, whichever types have them. Nothing is promised of time,
+//! of fairness, or of who comes first.
 #![tactic(auto)]
 
 mod both;

@@ -44,8 +44,8 @@ pub fn main_lane<'s, M: MainSteps, G: Gate, R: Wait>(
     // The seat's journal is the history of the run after its own word, and main's entries in it are those of its steps.
     ensures seat { IsSeatOf script.now Lane.Main result.0 }
 
-    // The side and the counts are those of the run after that word and main's last steps, which left the board as it was,
-    // however many steps the compositor has made meanwhile; and no step of main is left.
+    // The side and the counts are those of the run after that word and main's last steps, which left the board as it
+    // was, however many steps the compositor has made meanwhile; and no step of main is left.
     ensures knows { IfOk result.1 (λ counts. KnowsMain script.now result.0 (M.state side.new) counts.items) }
     ensures all { OnOk result.1 ((M.state side.new).steps ≡ length script.now.main) }
 {

@@ -117,8 +117,8 @@ impl MainTree {
         Ok(commit)
     }
 
-    /// Hears an event: where the delegate retires the event's model and the model is still there, it leaves the tree. True
-    /// exactly where a model was retired. The book stays as it is, and nothing here takes memory.
+    /// Hears an event: where the delegate retires the event's model and the model is still there, it leaves the tree.
+    /// True exactly where a model was retired. The book stays as it is, and nothing here takes memory.
     pub fn hear<F: VerdictFunction>(&mut self, event: &AnimEvent, delegate: &Delegate<F>) -> bool
         ensures heard { self.new ≡ after_hearing self.old event.now }
         ensures retired { result ≡ retires self.old.tree event.now }

@@ -15,8 +15,8 @@ use std::marker::Model;
 ///
 /// The equations follow the outline of cc/animation and of Web Animations: a local time and the offset make the time
 /// that has elapsed, this and the rate make the progress, and the progress gives an iteration and a part of it. The
-/// units and ranges, that nothing is rounded before the last step, and the rule for the fill are this project's own. A timing does not know when its animation starts: local times count from
-/// there.
+/// units and ranges, that nothing is rounded before the last step, and the rule for the fill are this project's own. A
+/// timing does not know when its animation starts: local times count from there.
 #[derive(Clone, Copy, Debug, PartialEq, Eq, Hash)]
 pub struct Timing {
     duration: u64,

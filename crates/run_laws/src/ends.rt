@@ -6,7 +6,8 @@ ghost use Rattle.run_laws.specs.Ends.{AbortedWasActive, EndsOnce};
 ghost use Rattle.tree_commit.specs.Runs.{Lanes, after, beginning};
 ghost use Rattle.tree_commit.specs.Scripts.{IsWellFormed, ScriptLists};
 
-/// A model starts once at most and ends once at most. It finishes only after its start, and no mark stands after its end.
+/// A model starts once at most and ends once at most. It finishes only after its start, and no mark stands after its
+/// end.
 pub fn models_end_once()
     ensures { (script : ScriptLists) → IsWellFormed script → (word : List Lane) → EndsOnce (after (beginning script) word).compositor.marks }
 {}

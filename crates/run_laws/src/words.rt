@@ -11,8 +11,8 @@ pub fn words_join()
     ensures { (lanes : Lanes) (first second : List Lane) → after lanes (first ++ second) ≡ after (after lanes first) second }
 {}
 
-/// After a whole word nothing is left in either lane. The frames are those of the ticks in their order, and there is one
-/// heard count more than drains.
+/// After a whole word nothing is left in either lane. The frames are those of the ticks in their order, and there is
+/// one heard count more than drains.
 pub fn whole_words_end()
     ensures { (script : ScriptLists) (word : List Lane) → IsWordOf (length script.main) (length script.compositor) word → IsComplete script word }
 {}

@@ -1,7 +1,7 @@
 //! The fields of a script's lines: what each is spelled as, and what it says.
 //!
-//! A line is fields with a space between two, and a field may be parts with a colon between two. What a field says is
-//! a function of its bytes, which `specs/` gives for numbers, keywords, easings and lists; each reader here answers just
+//! A line is fields with a space between two, and a field may be parts with a colon between two. What a field says is a
+//! function of its bytes, which `specs/` gives for numbers, keywords, easings and lists; each reader here answers just
 //! that, and nothing where the field says nothing.
 #![tactic(auto)]
 

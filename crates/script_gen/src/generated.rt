@@ -8,8 +8,8 @@ use crate::rounds::word_of_rounds;
 use frame_script::Script;
 use std::alloc::{AllocError, Global};
 
-/// The script that is made from a number, which is that of its elements; it has twice as many models, and four times as many ticks. The
-/// same number always gives the same script.
+/// The script that is made from a number, which is that of its elements; it has twice as many models, and four times as
+/// many ticks. The same number always gives the same script.
 pub fn generate(alloc: Global, n: u32) -> Result<Script, AllocError>
     requires some { 1 ≤ n }
     requires few { n ≤ MOST_GENERATED }

@@ -1,7 +1,8 @@
 //! Scripts of any size, made from a number.
 //!
-//! [`generate`] makes one of n elements, each with two models, that come and go over 4 n ticks, between which commits are
-//! pulled and activated. `specs/Generated.antt` says step by step what it holds; that it may run, for each number, is a law.
+//! [`generate`] makes one of n elements, each with two models, that come and go over 4 n ticks, between which commits
+//! are pulled and activated. `specs/Generated.antt` says step by step what it holds; that it may run, for each number,
+//! is a law.
 #![tactic(auto)]
 
 mod compositor_steps;

@@ -1,8 +1,8 @@
-//! What each line of a script says, by its fields alone: a step of main, a step of the compositor, a model, a key, or the
-//! word.
+//! What each line of a script says, by its fields alone: a step of main, a step of the compositor, a model, a key, or
+//! the word.
 //!
-//! A line that says nothing is refused for the first cause in the order of its fields. Whether the line may come where it
-//! comes is not judged here.
+//! A line that says nothing is refused for the first cause in the order of its fields. Whether the line may come where
+//! it comes is not judged here.
 #![tactic(auto)]
 
 mod compositor_line;

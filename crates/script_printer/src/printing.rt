@@ -26,8 +26,8 @@ use transform_ops::TransformList;
 use tree_commit::{Base, CompositorStep, Edit, MainStep};
 use value_blend::Opacity;
 
-/// The text of a script, in the one way in which it is printed. A keyword of an easing is printed as what it stands for,
-/// so the text may be longer than one that the script was read from.
+/// The text of a script, in the one way in which it is printed. A keyword of an easing is printed as what it stands
+/// for, so the text may be longer than one that the script was read from.
 #[tactic(auto, unfolding(frame_script::specs::Printing::script_text))]
 pub fn print_script(alloc: Global, script: &Script) -> Result<Vec<u8>, AllocError>
     ensures { IfOk result (λ bytes. bytes.items ≡ text.script_text script.now) }

@@ -14,8 +14,8 @@ use std::alloc::{AllocError, Global};
 use std::marker::Model;
 use tree_commit::{Edit, EditBook, EditRefusal, MainStep};
 
-/// The steps of main so far, and the book of their edits: each further step is checked in the time that it takes to look
-/// up a few ids, however many there are.
+/// The steps of main so far, and the book of their edits: each further step is checked in the time that it takes to
+/// look up a few ids, however many there are.
 ///
 /// Contracts see the steps.
 pub(crate) struct MainPart {

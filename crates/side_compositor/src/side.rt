@@ -19,8 +19,8 @@ use tree_commit::{Commit, Frame};
 
 /// All that the compositor has of a run: the host of its animations, its two trees, and the commit that it has pulled.
 ///
-/// There is one, on the compositor's thread. It does not know the script, the word and the order of its steps. A contract
-/// sees a `CompositorState`.
+/// There is one, on the compositor's thread. It does not know the script, the word and the order of its steps. A
+/// contract sees a `CompositorState`.
 pub struct CompositorSide<'e, E: EasingFunction> {
     host: AnimHost,
     active: ActiveTree,

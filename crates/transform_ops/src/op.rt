@@ -74,8 +74,8 @@ impl TransformOp {
         }
     }
 
-    /// The operation that lies at a progress of the way to another one, number by number. A turn keeps its axis. Two that
-    /// don't match are never blended: that gives the first one.
+    /// The operation that lies at a progress of the way to another one, number by number. A turn keeps its axis. Two
+    /// that don't match are never blended: that gives the first one.
     pub fn blend(self, to: TransformOp, progress: i64) -> TransformOp
         requires from_within { IsOperation self }
         requires to_within { IsOperation to }

@@ -1,5 +1,5 @@
-//! Tests of `run`. What a run prints depends on the order in which its lanes meet, so each test has a script with one order, a
-//! gate that leaves one order, or a comparison with the replay of the order that was printed.
+//! Tests of `run`. What a run prints depends on the order in which its lanes meet, so each test has a script with one
+//! order, a gate that leaves one order, or a comparison with the replay of the order that was printed.
 
 ghost use Rattle.anim_delegate.specs.Delegates.{MayAsk, FollowsTable};
 ghost use Rattle.easing_fixed.specs.Evaluators.{MayEase, Eases};
@@ -198,7 +198,8 @@ fn a_script_that_is_refused_is_not_run(rt: HostRuntime) -> Result<(), Fail> {
     Ok(())
 }
 
-// The source gives all bytes in one call, and the end in the next. The sink takes 64 bytes a call, and the report has 96.
+// The source gives all bytes in one call, and the end in the next. The sink takes 64 bytes a call, and the report has
+// 96.
 #[test]
 fn a_run_ends_at_a_fault_of_the_outside(rt: HostRuntime) -> Result<(), Fail> {
     let report = THREE_TICKS_REPORT.as_bytes();
