@@ -1,6 +1,7 @@
 use super::*;
 use anim_names::{AnimEvent, ElementId, GroupId, Lane, ModelId};
 use std::alloc::Global;
+use std::sync::Arc;
 use std::test::Fail;
 use transform_ops::{TransformList, TransformOp};
 use tree_commit::{Frame, FrameRow};
@@ -33,7 +34,7 @@ fn moved_row(alloc: Global) -> Result<FrameRow, Fail> {
     Ok(FrameRow {
         element: ElementId(1),
         opacity: Opacity::new(250_000).ok_or("no opacity")?,
-        transform: TransformList::new(alloc, &operations)?,
+        transform: Arc::new(alloc, TransformList::new(alloc, &operations)?)?,
     })
 }
 
@@ -41,7 +42,7 @@ fn still_row(alloc: Global) -> Result<FrameRow, Fail> {
     Ok(FrameRow {
         element: ElementId(u32::MAX),
         opacity: Opacity::new(1_000_000).ok_or("no opacity")?,
-        transform: TransformList::new(alloc, &[])?,
+        transform: Arc::new(alloc, TransformList::new(alloc, &[])?)?,
     })
 }
 

@@ -1,19 +1,14 @@
--- What the code keeps of the value that counts, while it looks for it.
+-- The value that counts, as one model of an element after the other is looked at.
 use Rattle.std.specs.Prelude.{ℕ, nat_lt, Bool, true, Option, Some, None, option_map, if◌then◌else◌}
 use Rattle.anim_names.specs.declared.property.Property.{Property}
-use Rattle.keyframe_model.specs.Models.{Spec}
-use Rattle.keyframe_model.specs.Views.{value_of}
-use Rattle.tree_commit.specs.declared.runs.given.Given.{Given}
+use Rattle.keyframe_model.specs.Models.{Spec, PropertyValue}
 use Rattle.tree_commit.specs.declared.runs.shown.Shown.{Shown}
 use Rattle.tree_commit.specs.Trees.{TreeLists}
 use Rattle.tree_commit.specs.Frames as frames
 
--- a value that a model gives, as plain data
-abbrev pub given_of : Given → frames.Given
-given_of given = record { value = value_of given.value; order = given.order }
-
-abbrev pub best_of : Option Given → Option frames.Given
-best_of best = option_map given_of best
+-- its value
+abbrev pub value_in : Option frames.Given → Option PropertyValue
+value_in best = option_map (λ given. given.value) best
 
 -- nothing counts yet, or a start of a lower order
 abbrev pub is_older : Option frames.Given → ℕ → Bool

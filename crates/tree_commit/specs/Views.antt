@@ -5,6 +5,9 @@ use Rattle.tree_commit.specs.declared.edits.edit.Edit.TheVariants as edit
 use Rattle.tree_commit.specs.declared.runs.frame_row.FrameRow.{FrameRow}
 use Rattle.tree_commit.specs.declared.runs.main_step.MainStep.{MainStep}
 use Rattle.tree_commit.specs.declared.runs.main_step.MainStep.TheVariants as step
+use Rattle.tree_commit.specs.declared.runs.sample.Sample.{Sample}
+use Rattle.tree_commit.specs.declared.runs.sample.Sample.TheVariants as sample
+use Rattle.keyframe_model.specs.Models.{PropertyValue, OpacityValue, TransformValue}
 use Rattle.tree_commit.specs.Trees.{Look}
 use Rattle.tree_commit.specs.Edits.{Change, AddElement, RemoveElement, SetOpacity, SetTransform, AddTimeline, AddModel, RemoveModel}
 use Rattle.tree_commit.specs.Frames.{DrawnRow}
@@ -27,5 +30,9 @@ step_of (step.Edit change) = EditStep (change_of change)
 step_of step.Commit = CommitStep
 step_of step.Drain = DrainStep
 
+abbrev pub sample_of : Sample → PropertyValue
+sample_of (sample.Opacity opacity) = OpacityValue opacity
+sample_of (sample.Transform list) = TransformValue list.value
+
 abbrev pub drawn_row_of : FrameRow → DrawnRow
-drawn_row_of row = record { element = row.element; opacity = row.opacity; transform = row.transform }
+drawn_row_of row = record { element = row.element; opacity = row.opacity; transform = row.transform.value }

@@ -1,7 +1,9 @@
-ghost use Rattle.std.specs.Prelude.{◌≡◌, ◌==◌, nat_eq, ◌<◌, IsTrue, IfOk, length, map, find, position, slice_get, Some, is_some, option_map};
+ghost use Rattle.std.specs.Prelude.{◌≡◌, ◌==◌, nat_eq, ◌<◌, ◌≤◌, ◌-ℤ◌, unsigned_abs, IsTrue, IfOk, length, map, find, position, slice_get, Some, is_some, option_map};
 ghost use Rattle.std.specs.List.{IsDistinct};
 ghost use Rattle.std.specs.Option.{option_copied};
-ghost use Rattle.tree_commit.specs.Trees.{Committed, empty_commit, has_element, has_model};
+ghost use Rattle.anim_timeline.specs.Timelines.{IsTime};
+ghost use Rattle.micro_time.specs.declared.TheConstants.{LARGEST_LOCAL};
+ghost use Rattle.tree_commit.specs.Trees.{Committed, empty_commit, has_element, has_model, local_time};
 
 use crate::Base;
 use anim_names::{ElementId, ModelId, TimelineId};
@@ -167,4 +169,29 @@ impl Commit {
     {
         self.timelines.get(&id)
     }
+
+    /// The local time of a model at a tick, in microseconds: how long after its start the model's timeline is. The start
+    /// is a time of that timeline. The local time is negative before it.
+    pub fn local_time(&self, model: &ModelSpec, time: u64, start: i64) -> i64
+        requires timeline_there { IsTrue (has_timeline self.now.tree model.now.timeline) }
+        requires in_time { IsTime time }
+        requires fits { unsigned_abs (local_time self.now.tree time model.now start) ≤ LARGEST_LOCAL }
+        ensures { result ≡ local_time self.now.tree time model.now start }
+    {
+        let timeline = self.timeline(model.timeline()).unwrap();
+        since(timeline.time_of(time), start)
+    }
+
+    // What the commit's tables take their memory from.
+    pub(crate) fn allocator(&self) -> Global {
+        *self.elements.allocator()
+    }
+}
+
+// How long after a start a time of its timeline is; negative before it.
+fn since(time: i64, start: i64) -> i64
+    requires { unsigned_abs (time -ℤ start) ≤ LARGEST_LOCAL }
+    ensures { result ≡ time -ℤ start }
+{
+    time - start
 }

@@ -3,9 +3,11 @@
 pub mod compositor_step;
 pub mod frame;
 pub mod frame_row;
-pub(crate) mod given;
+pub mod latest;
 pub mod main_step;
 pub mod mark;
+pub mod sample;
+pub mod samples;
 pub mod sampling;
 pub mod shown;
 pub mod start_table;

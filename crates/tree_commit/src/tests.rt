@@ -15,5 +15,8 @@ fn types_are_shared_between_threads() {
     is_shared::<MainStep>();
     is_shared::<Commit>();
     is_shared::<FrameRow>();
+    is_shared::<Sample>();
+    is_shared::<Latest>();
+    is_shared::<Samples>();
     is_shared::<Frame>();
 }

@@ -4,6 +4,7 @@ use crate::both::{Answer, Both, Edited, expect_rows};
 use crate::samples::{self, Names};
 use anim_names::{ElementId, ModelId, Property, TimelineId};
 use std::process::Abort;
+use std::sync::Arc;
 use std::test::Fail;
 use tree_commit::{Commit, Frame, FrameRow};
 
@@ -75,7 +76,7 @@ fn a_frame_has_its_rows(rt: HostRuntime) -> Result<(), Fail> {
     let row = FrameRow {
         element: ElementId(3),
         opacity: samples::opacity(250_000)?,
-        transform: samples::moved(rt.alloc())?,
+        transform: Arc::new(rt.alloc(), samples::moved(rt.alloc())?)?,
     };
     let frame = Frame::from_rows(16_000, 2, vec![in rt.alloc(); row]?);
     expect_frame(&rt, &frame);

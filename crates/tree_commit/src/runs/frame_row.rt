@@ -1,13 +1,14 @@
 use anim_names::ElementId;
+use std::sync::Arc;
 use transform_ops::TransformList;
 use value_blend::Opacity;
 
 /// What one element shows at a tick.
 ///
-/// The row owns its list: a frame outlives the commit that it was drawn from.
+/// The list is shared: a row that no model animates points to the list of its commit.
 #[derive(Debug, Drop)]
 pub struct FrameRow {
     pub element: ElementId,
     pub opacity: Opacity,
-    pub transform: TransformList,
+    pub transform: Arc<TransformList>,
 }
