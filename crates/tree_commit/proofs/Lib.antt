@@ -1,3 +1,5 @@
 pub mod BookLemmas
+pub mod FollowLemmas
+pub mod OverLemmas
 pub mod SamplingLemmas
 pub mod TableLemmas

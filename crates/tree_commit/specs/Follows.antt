@@ -41,6 +41,16 @@ KnowsAtMost most active pending marks =
     (ids : List ℕ) → AreDistinct ids → ((id : ℕ) → IsAmong id ids → IsKnown active pending marks id)
     → length ids ≤ most
 
+-- ---- one tree after another
+
+-- The trees agree: a model of both is one, and a timeline of both has one zero.
+pub record TreesAgree (old new : TreeLists) : Type 0 where
+  pub one_model :
+      (model twin : Spec) → IsAmong model old.models → IsAmong twin new.models → model.id ≡ twin.id
+      → model ≡ twin
+  pub one_origin :
+      (id : ℕ) → IsTrue (has_timeline old id) → IsTrue (has_timeline new id) → origin_of new id ≡ origin_of old id
+
 -- ---- the pending tree after the active one
 
 -- The pending tree goes on from the active one and from the marks so far.
