@@ -1,3 +1,4 @@
-pub mod RowLemmas
-pub mod ListLemmas
-pub mod CountLemmas
+mod CountLemmas
+mod KeptLemmas
+mod ListLemmas
+mod RowLemmas

@@ -1,11 +1,13 @@
 ghost use Rattle.std.specs.Prelude.{◌≡◌, IfOk, map};
 ghost use Rattle.anim_timeline.specs.Timelines.{IsTime};
+ghost use Rattle.tree_commit.specs.Follows.{TreesAgree};
 ghost use Rattle.tree_commit.specs.Frames.{LocalTimesFit, frame_by, row_of};
 ghost use Rattle.tree_commit.specs.Trees.{empty_commit};
 ghost use Rattle.tree_commit.specs.Views.{drawn_row_of};
 ghost use Rattle.active_tree.specs.ElementModels.{AreListsOf};
 
 use crate::element_models::ElementModels;
+use crate::sampled_commit::SampledCommit;
 use crate::sampling::sample_row;
 use easing_fixed::{EasingFunction, Evaluator};
 use std::alloc::{AllocError, Global};
@@ -16,12 +18,13 @@ use tree_commit::{Commit, Frame, FrameRow, StartTable};
 /// The commit that is drawn.
 ///
 /// The compositor has one active tree, on its own thread, and there is always a commit in it. It draws frames and does
-/// not know which models start, finish or are aborted: it asks a table of starts. A frame costs its rows and one look
-/// at each model that animates one of its elements; the first frame of a commit also sorts the commit's models by
-/// element. A contract sees the active commit.
+/// not know which models start, finish or are aborted: it asks a table of starts. A frame costs its rows and one look at
+/// each model that animates one of its elements. A model is evaluated until its iterations are over; from then on its
+/// last sample is used. The first frame of a commit also sorts the commit's models by element. A contract sees the
+/// active commit.
 pub struct ActiveTree {
     alloc: Global,
-    commit: Arc<Commit>,
+    sampled: SampledCommit,
     /// The models of the commit by element; none until the first frame after it was set.
     models: Option<ElementModels>,
 }
@@ -30,7 +33,7 @@ impl Drop for ActiveTree {
     fn drop(self) {
         let ActiveTree {
             alloc: _,
-            commit: _commit,
+            sampled: _sampled,
             models: _models,
         } = self;
     }
@@ -43,9 +46,9 @@ impl Model for ActiveTree {
 
     ghost Value = { Committed };
 
-    ghost view = { λ t. t.commit.value };
+    ghost view = { λ t. t.sampled };
 
-    ghost invariant = { λ t. IfSome t.models (λ models. AreListsOf t.commit.value.tree.models models) };
+    ghost invariant = { λ t. IfSome t.models (λ models. AreListsOf t.sampled.tree.models models) };
 }
 
 impl ActiveTree {
@@ -53,27 +56,28 @@ impl ActiveTree {
     pub fn new(alloc: Global) -> Result<ActiveTree, AllocError>
         ensures { IfOk result (λ tree. tree ≡ empty_commit) }
     {
-        let commit = Commit::empty(alloc)?;
         Ok(ActiveTree {
             alloc,
-            commit,
+            sampled: SampledCommit::empty(alloc)?,
             models: None,
         })
     }
 
-    /// Makes this the active commit.
+    /// Makes this the active commit, which must agree with the one before: a model of both is one model, and a timeline
+    /// of both has one zero. The samples of models that it does not have are dropped. It takes no memory.
     pub fn set(&mut self, commit: Arc<Commit>)
+        requires { TreesAgree self.old.tree commit.value.tree }
         ensures { self.new ≡ commit.value }
     {
         self.models = None;
-        self.commit = commit;
+        self.sampled.set(commit);
     }
 
     /// The active commit.
     pub fn commit(&self) -> &Arc<Commit>
         ensures { result.now.value ≡ self.now }
     {
-        &self.commit
+        self.sampled.commit()
     }
 
     /// The frame of a tick, in microseconds, by what the table shows of the commit's models: a row for each element, in
@@ -90,9 +94,16 @@ impl ActiveTree {
         ensures same { self.new ≡ self.old }
     {
         let models = self.take_models()?;
-        let rows = sample_all(self.alloc, &self.commit, &models, time, starts, evaluator)?;
+        let rows = sample_all(
+            self.alloc,
+            &mut self.sampled,
+            &models,
+            time,
+            starts,
+            evaluator,
+        )?;
         self.models = Some(models);
-        Ok(Frame::from_rows(time, self.commit.number(), rows))
+        Ok(Frame::from_rows(time, self.sampled.commit().number(), rows))
     }
 
     // The models of the commit by element: those that an earlier frame left here, else made now.
@@ -102,7 +113,7 @@ impl ActiveTree {
     {
         match self.models.take() {
             Some(models) => Ok(models),
-            None => ElementModels::of(self.alloc, &self.commit),
+            None => ElementModels::of(self.alloc, self.sampled.commit()),
         }
     }
 }
@@ -110,22 +121,23 @@ impl ActiveTree {
 // What each element of the commit shows at a tick.
 fn sample_all<S: StartTable, E: EasingFunction>(
     alloc: Global,
-    commit: &Commit,
+    sampled: &mut SampledCommit,
     models: &ElementModels,
     time: u64,
     starts: &S,
     evaluator: &Evaluator<E>,
 ) -> Result<Vec<FrameRow>, AllocError>
-    requires lists { AreListsOf commit.now.tree.models models.now }
+    requires lists { AreListsOf sampled.old.tree.models models.now }
     requires in_time { IsTime time }
-    requires locals { LocalTimesFit commit.now.tree (S.starts starts.now) time }
-    ensures { IfOk result (λ rows.
-        map drawn_row_of rows.items ≡ map (row_of commit.now.tree (S.starts starts.now) time) commit.now.tree.elements) }
+    requires locals { LocalTimesFit sampled.old.tree (S.starts starts.now) time }
+    ensures rows { IfOk result (λ rows.
+        map drawn_row_of rows.items ≡ map (row_of sampled.old.tree (S.starts starts.now) time) sampled.old.tree.elements) }
+    ensures same { sampled.new ≡ sampled.old }
 {
-    let count = commit.element_count();
+    let count = sampled.commit().element_count();
     let mut rows = Vec::with_capacity(alloc, count)?;
     for index in 0..count {
-        rows.push(sample_row(commit, models, index, time, starts, evaluator)?)?;
+        rows.push(sample_row(sampled, models, index, time, starts, evaluator)?)?;
     }
     Ok(rows)
 }

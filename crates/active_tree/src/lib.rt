@@ -7,6 +7,7 @@
 mod active;
 mod element_models;
 mod model_list;
+mod sampled_commit;
 mod sampling;
 
 pub use active::ActiveTree;

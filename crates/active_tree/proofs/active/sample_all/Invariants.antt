@@ -5,5 +5,8 @@ use Rattle.active_tree.proofs.active.sample_all.Given as goal
 
 abbrev pub invariant-loop-index : goal.invariant-loop-index
 invariant-loop-index g l =
+    (l.sampled ≡ l.fn.sampled)
+    × (
     map drawn_row_of l.rows.items
-    ≡ take l.index (map (row_of l.commit.tree (g.S.StartTable.starts l.starts) l.time) l.commit.tree.elements)
+    ≡ take l.index (map (row_of l.fn.sampled.tree (g.S.StartTable.starts l.starts) l.time) l.fn.sampled.tree.elements)
+    )

@@ -1,0 +1,27 @@
+-- The samples that are kept of models whose iterations are over.
+use Rattle.std.specs.Prelude.{◌≡◌, ℕ, ◌≤◌, nat_eq, ℤ, IsTrue, List, Option, IfSome}
+use Rattle.std.specs.Map.{lookup}
+use Rattle.keyframe_model.specs.Models.{Spec, PropertyValue, model_value}
+use Rattle.tree_commit.specs.Follows.{IsAmong}
+use Rattle.tree_commit.specs.Trees.{TreeLists, has_model, local_time}
+
+-- By which start the sample was taken, from which tick on it is right, and the value that the model gives, where it gives
+-- one.
+pub record KeptSample : Type 0 where
+  pub start : ℤ
+  pub since : ℕ
+  pub value : Option PropertyValue
+
+-- From its tick on the model gives the kept value, if it started at the kept start.
+abbrev pub IsRightOf : TreeLists → Spec → KeptSample → Type 0
+IsRightOf tree model kept =
+    (tick : ℕ) → kept.since ≤ tick → model_value model (local_time tree tick model kept.start) ≡ kept.value
+
+-- The sample is of the model of this id, which is in the tree.
+abbrev pub IsKeptOf : TreeLists → ℕ → KeptSample → Type 0
+IsKeptOf tree id kept =
+    IsTrue (has_model tree id) × ((model : Spec) → IsAmong model tree.models → id ≡ model.id → IsRightOf tree model kept)
+
+-- So is each kept sample, of the model under whose id it is.
+abbrev pub AreKeptOf : TreeLists → List (ℕ × KeptSample) → Type 0
+AreKeptOf tree kept = (id : ℕ) → IfSome (lookup (nat_eq id) kept) (IsKeptOf tree id)
