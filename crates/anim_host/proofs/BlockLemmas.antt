@@ -13,10 +13,12 @@ use Rattle.tree_commit.specs.declared.runs.mark.Mark.{Mark}
 use Rattle.tree_commit.specs.declared.runs.mark.Mark.TheVariants.{Started, Finished, Aborted}
 use Rattle.tree_commit.specs.Follows.{IsAmong}
 use Rattle.tree_commit.specs.Marks.{blocks, ends, is_blocked_for, is_ended, is_group_running, is_running, is_started, model_of, started_group, starts, starts_in, starts_on}
-use Rattle.anim_host.specs.Fits.{AgreesWith, BlocksStand, IsOf, IsReleased, IsThereIfRunning, MarksFit, is_held_by}
-use Rattle.anim_host.specs.States.{is_among}
+use Rattle.anim_host.specs.Fits.{AgreesWith, IsOf, IsThereIfRunning, MarksFit}
+use Rattle.host_tables.specs.Blocks.{BlocksStand, IsReleased, is_held_by}
+use Rattle.host_tables.specs.States.{is_among}
 use Rattle.anim_host.proofs.FitLemmas.{among-append, any-found, any-true, both-ways, ended-before}
-use Rattle.anim_host.proofs.StateLemmas.{ended-more, one_any, or_none}
+use Rattle.host_tables.proofs.ElementLemmas.{apart-test, eq-flip}
+use Rattle.host_tables.proofs.StateLemmas.{ended-more, one_any, or_none}
 
 -- ---- tests
 
@@ -39,9 +41,6 @@ not-true false is = refl
 pub from-false : (b : Bool) → b ≡ false → not b ≡ true
 from-false true is = cc
 from-false false is = refl
-
-pub apart-test : (a b : ℕ) → a ≢ b → (a == b) ≡ false
-apart-test a b differ = elim (eqb_tells a b) [ inl t ↦ absurd (differ t.1) | inr f ↦ f.0 ]
 
 -- what implies another test is the two together
 and-implied : (a b : Bool) → (b ≡ true → a ≡ true) → (a && b) ≡ b
@@ -148,9 +147,6 @@ property-flip Opacity Opacity = refl
 property-flip Opacity Transform = refl
 property-flip Transform Opacity = refl
 property-flip Transform Transform = refl
-
-pub eq-flip : (a b : ℕ) → (a == b) ≡ (b == a)
-eq-flip a b = elim (eqb_tells a b) [ inl t ↦ t.0 ∙ sym (eq-eqb b a (sym t.1)) | inr f ↦ f.0 ∙ sym (apart-test b a (λ same. f.1 (sym same))) ]
 
 pub start-blocks : (table new : Anims) (marks : List Mark) (id group element : ℕ) (property : Property) (at : ℕ) (start : ℤ)
     → BlocksStand table marks

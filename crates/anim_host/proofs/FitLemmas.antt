@@ -11,9 +11,9 @@ use Rattle.tree_commit.specs.Follows.{Follows, IsAmong, has_mark}
 use Rattle.tree_commit.specs.Marks.{ends, is_ended, model_of, starts_in}
 use Rattle.tree_commit.specs.Trees.{Committed, TreeLists}
 use Rattle.anim_host.specs.Fits.{AgreesWith, IsOf, IsThereIfRunning, MarksFit}
-use Rattle.anim_host.specs.States.{is_among}
-use Rattle.anim_host.proofs.AmongLemmas.{among-there}
-use Rattle.anim_host.proofs.StateLemmas.{ended-more}
+use Rattle.host_tables.specs.States.{is_among}
+use Rattle.host_tables.proofs.AmongLemmas.{among-there}
+use Rattle.host_tables.proofs.StateLemmas.{ended-more}
 
 -- ---- lists
 

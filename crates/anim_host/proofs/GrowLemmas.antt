@@ -6,9 +6,9 @@ use Rattle.std.proofs.lemmas.Option.{none-some, same_Some}
 use Rattle.keyframe_model.specs.Models.{Spec}
 use Rattle.tree_commit.specs.Trees.{Committed}
 use Rattle.tree_commit.specs.declared.runs.mark.Mark.{Mark}
-use Rattle.anim_host.specs.MarkLists.{Marked, mark_if, with_marks}
+use Rattle.host_tables.specs.MarkLists.{Marked, mark_if, with_marks}
 use Rattle.anim_host.specs.Standing.{Stood, with_new}
-use Rattle.anim_host.proofs.LoopLemmas.{made-last, made-next}
+use Rattle.host_tables.proofs.LoopLemmas.{made-last, made-next}
 use Rattle.anim_host.proofs.PushLemmas.{with-marks}
 
 stood : Committed → Option Committed → Marked → Stood

@@ -1,16 +1,8 @@
-pub mod MarkListLemmas
-pub mod MarkLemmas
-pub mod LoopLemmas
 pub mod PushLemmas
 pub mod StartLemmas
 pub mod ShownLemmas
-pub mod RowLemmas
-pub mod StateLemmas
-pub mod AmongLemmas
 pub mod StandLemmas
-pub mod ShapeLemmas
 pub mod GrowLemmas
 pub mod FitLemmas
 pub mod BlockLemmas
-pub mod ElementLemmas
 pub mod SettleLemmas

@@ -4,8 +4,8 @@ use Rattle.std.specs.Prelude.{slice_get}
 use Rattle.std.proofs.lemmas.List.{length-append, take-append-le, take_all}
 use Rattle.keyframe_model.specs.Models.{Spec}
 use Rattle.tree_commit.specs.declared.runs.mark.Mark.{Mark}
-use Rattle.anim_host.specs.MarkLists.{Marked, mark_if, with_marks}
-use Rattle.anim_host.proofs.LoopLemmas.{made-last, made-next}
+use Rattle.host_tables.specs.MarkLists.{Marked, mark_if, with_marks}
+use Rattle.host_tables.proofs.LoopLemmas.{made-last, made-next}
 
 marked : List Mark → ℕ → ℕ → Marked
 marked marks cleared room = record { marks = marks; cleared = cleared; room = room }

@@ -16,14 +16,14 @@ use Rattle.tree_commit.specs.Marks.{ends, is_blocked_for, is_ended, is_group_run
 use Rattle.tree_commit.specs.Trees.{Committed, TreeLists, has_element, has_group, has_model, members_of}
 use Rattle.std.proofs.lemmas.List.Folds.{list_any-append}
 use Rattle.std.proofs.Common.{◌⊎◌}
-use Rattle.anim_host.specs.States.{is_among}
-use Rattle.anim_host.proofs.AmongLemmas.{among-there}
+use Rattle.host_tables.specs.States.{is_among}
+use Rattle.host_tables.proofs.AmongLemmas.{among-there}
 use Rattle.anim_host.specs.Fits.{AreSettled, IsOf, IsThereIfRunning, MarksFit, MayStartIn}
-use Rattle.anim_host.specs.Shapes.{at_places}
+use Rattle.host_tables.specs.Shapes.{at_places}
 use Rattle.anim_host.proofs.BlockLemmas.{among-filter, among-model, and-first, and-second, clash, ends-of, filter-among, none-blocks, not-true, running-starts, start-runs, started-group-of}
-use Rattle.anim_host.proofs.ShapeLemmas.{below-append}
+use Rattle.host_tables.proofs.ShapeLemmas.{below-append}
 use Rattle.anim_host.proofs.FitLemmas.{any-found, any-true, both-ways, started-in-more}
-use Rattle.anim_host.proofs.StateLemmas.{ended-more, or_none, started-grows}
+use Rattle.host_tables.proofs.StateLemmas.{ended-more, or_none, started-grows}
 
 or-either : {A : Type 0} (a b : Bool) → (a || b) ≡ true → (a ≡ true → A) → (b ≡ true → A) → A
 or-either true b is one two = one refl

@@ -8,12 +8,12 @@ use Rattle.std.proofs.lemmas.Option.{none-some, same_Some}
 use Rattle.keyframe_model.specs.Models.{Spec}
 use Rattle.tree_commit.specs.declared.runs.mark.Mark.{Mark}
 use Rattle.tree_commit.specs.Marks.{model_of}
-use Rattle.anim_host.specs.declared.row.ModelRow.{ModelRow}
+use Rattle.host_tables.specs.declared.row.ModelRow.{ModelRow}
 use Rattle.keyframe_effect.specs.declared.state.RunState.TheVariants as state
-use Rattle.anim_host.specs.Rows.{advanced_row, entered, joined, left}
-use Rattle.anim_host.specs.States.{FinishesStarted, advanced, is_among, row_for, row_if, state_of}
-use Rattle.anim_host.proofs.AmongLemmas.{among-left, among-taken, apart-before, apart-behind}
-use Rattle.anim_host.proofs.StateLemmas.{state-here, state-other}
+use Rattle.host_tables.specs.Rows.{advanced_row, entered, joined, left}
+use Rattle.host_tables.specs.States.{FinishesStarted, advanced, is_among, row_for, row_if, state_of}
+use Rattle.host_tables.proofs.AmongLemmas.{among-left, among-taken, apart-before, apart-behind}
+use Rattle.host_tables.proofs.StateLemmas.{state-here, state-other}
 
 -- ---- one row
 

@@ -4,7 +4,8 @@ use Rattle.std.proofs.lemmas.List.{append-nil, drop_all, drop_more, length-appen
 use Rattle.tree_commit.specs.declared.runs.mark.Mark.{Mark}
 use Rattle.tree_commit.specs.Trees.{TreeLists, Committed, members_of}
 use Rattle.tree_commit.specs.Marks.{group_marks, is_ready, start_mark, start_marks}
-use Rattle.anim_host.specs.MarkLists.{Marked, start_room, with_marks}
+use Rattle.host_tables.specs.MarkLists.{Marked, with_marks}
+use Rattle.anim_host.specs.Ticks.{start_room}
 use Rattle.anim_host.proofs.PushLemmas.{with-marks}
 
 pub record Starting (tree : TreeLists) (pending : Option Committed) (tick : ℕ) (groups : List ℕ) (index : ℕ) (old now : Marked) : Type 0 where

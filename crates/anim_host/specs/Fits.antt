@@ -1,15 +1,13 @@
 -- How the marks go with the models of the active commit.
-use Rattle.std.specs.Prelude.{◌≡◌, ◌≢◌, ℕ, ◌==◌, ◌&&◌, if◌then◌else◌, Bool, true, false, List, Option, Some, None}
+use Rattle.std.specs.Prelude.{◌≡◌, ◌≢◌, ℕ, true, false, List}
 use Rattle.std.specs.List.{list_any}
-use Rattle.anim_names.specs.declared.property.Property.{Property}
-use Rattle.element_anims.specs.Elements.{Anims, blocker_of}
 use Rattle.keyframe_model.specs.Models.{Spec, property_of}
 use Rattle.tree_commit.specs.declared.runs.mark.Mark.{Mark}
 use Rattle.tree_commit.specs.declared.runs.mark.Mark.TheVariants.{Started, Finished, Aborted}
 use Rattle.tree_commit.specs.Follows.{IsAmong}
 use Rattle.tree_commit.specs.Marks.{blocks, is_ended, is_started, starts_in}
 use Rattle.tree_commit.specs.Trees.{TreeLists, has_element}
-use Rattle.anim_host.specs.States.{is_among}
+use Rattle.host_tables.specs.States.{is_among}
 
 -- The mark is one about this model. A start names its group, its element and its property.
 abbrev pub IsOf : Mark → Spec → Type 0
@@ -42,24 +40,6 @@ pub record MarksFit (models : List Spec) (marks : List Mark) : Type 0 where
 pub record AreSettled (models : List Spec) (marks : List Mark) : Type 0 where
   pub ended : (model : Spec) → IsAmong model models → is_ended marks model.id ≡ true → is_started marks model.id ≡ true
   pub together : (model : Spec) → IsAmong model models → list_any (starts_in model.group) marks ≡ true → is_started marks model.id ≡ true
-
--- ---- blocks
-
--- the group is this one
-abbrev pub is_held_by : ℕ → Option ℕ → Bool
-is_held_by group None = false
-is_held_by group (Some holder) = group == holder
-
--- The table says of each property of each element which group blocks it.
-abbrev pub BlocksStand : Anims → List Mark → Type 0
-BlocksStand table marks =
-    (group element : ℕ) (property : Property) → is_held_by group (blocker_of table element property) ≡ blocks marks group element property
-
--- Of this element the group blocks nothing any more; all else is as it was.
-abbrev pub IsReleased : ℕ → ℕ → Anims → Anims → Type 0
-IsReleased element group old new =
-    (e : ℕ) (p : Property)
-    → blocker_of new e p ≡ (if element == e && is_held_by group (blocker_of old e p) then None else blocker_of old e p)
 
 -- The model may start with its group: it is of this group, has not ended, its element is there, and no other group blocks
 -- its property.

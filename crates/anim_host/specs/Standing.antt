@@ -1,15 +1,16 @@
 -- What the tables of a host stand for: the active commit, the pending one or none, and the marks.
 use Rattle.std.specs.Prelude.{◌≡◌, ℕ, ◌+◌, ◌≤◌, List, length, Option, IfSome, option_map}
-use Rattle.anim_host.specs.Shapes.{shape_of}
+use Rattle.host_tables.specs.Shapes.{shape_of}
 use Rattle.tree_commit.specs.declared.runs.mark.Mark.{Mark}
 use Rattle.element_anims.specs.Elements.{Anims}
 use Rattle.tree_commit.specs.Follows.{Follows}
 use Rattle.tree_commit.specs.Trees.{Committed}
-use Rattle.anim_host.specs.Elements.{PresenceStands}
-use Rattle.anim_host.specs.Fits.{AreSettled, BlocksStand, MarksFit}
-use Rattle.anim_host.specs.MarkLists.{Marked, with_marks}
-use Rattle.anim_host.specs.Rows.{Rows, row_at}
-use Rattle.anim_host.specs.States.{FinishesStarted, models_of, row_for}
+use Rattle.host_tables.specs.Elements.{PresenceStands}
+use Rattle.anim_host.specs.Fits.{AreSettled, MarksFit}
+use Rattle.host_tables.specs.Blocks.{BlocksStand}
+use Rattle.host_tables.specs.MarkLists.{Marked, with_marks}
+use Rattle.host_tables.specs.Rows.{Rows, row_at}
+use Rattle.host_tables.specs.States.{FinishesStarted, models_of, row_for}
 
 -- The tables stand for these commits and these marks. Each model of either commit has its row, which says in which of
 -- them it is and what the marks say of it, and there are no other rows. The table of elements says which elements are in

@@ -1,8 +1,8 @@
 //! What is aborted at an activation.
 
 ghost use Rattle.std.specs.Prelude.{◌≡◌, ◌+◌, ◌≤◌, ◌<◌, true, length};
-ghost use Rattle.anim_host.specs.MarkLists.{mark_if};
-ghost use Rattle.anim_host.specs.Shapes.{shape_of};
+ghost use Rattle.host_tables.specs.MarkLists.{mark_if};
+ghost use Rattle.host_tables.specs.Shapes.{shape_of};
 ghost use Rattle.anim_host.specs.Standing.{with_new};
 ghost use Rattle.tree_commit.specs.Follows.{IsAmong};
 ghost use Rattle.tree_commit.specs.declared.runs.mark.Mark.TheVariants.{Aborted};
@@ -10,9 +10,8 @@ ghost use Rattle.tree_commit.specs.Marks.{is_lost, marks_of_activation};
 ghost use Rattle.tree_commit.specs.Trees.{has_model};
 
 use crate::ends::end_model;
-use crate::row::{has_ended, runs};
-use crate::shape::Shape;
 use crate::standing::Standing;
+use host_tables::{Shape, has_ended, runs};
 use keyframe_model::ModelSpec;
 use tree_commit::{Commit, Mark};
 

@@ -3,17 +3,16 @@
 ghost use Rattle.std.specs.Prelude.{◌≡◌, ◌<◌, ◌∷◌, [], ◌==◌, ◌&&◌, ℕ, not, true, false, length, slice_get, Some};
 ghost use Rattle.std.specs.List.{list_any};
 ghost use Rattle.anim_host.specs.Fits.{IsOf};
-ghost use Rattle.anim_host.specs.MarkLists.{StartIsWithin};
-ghost use Rattle.anim_host.specs.Shapes.{at_places, shape_of};
+ghost use Rattle.host_tables.specs.MarkLists.{StartIsWithin};
+ghost use Rattle.host_tables.specs.Shapes.{at_places, shape_of};
 ghost use Rattle.anim_host.specs.Standing.{with_new};
 ghost use Rattle.tree_commit.specs.Follows.{IsAmong};
 ghost use Rattle.tree_commit.specs.Marks.{aborts, ends, is_running, is_started, model_of, starts_in};
 ghost use Rattle.tree_commit.specs.Trees.{has_model};
 
-use crate::row::runs;
-use crate::shape::Shape;
 use crate::standing::Standing;
 use anim_names::ModelId;
+use host_tables::{Shape, runs};
 use keyframe_model::ModelSpec;
 use tree_commit::{Commit, Mark};
 

@@ -2,17 +2,16 @@
 
 ghost use Rattle.std.specs.Prelude.{◌≡◌, ℕ, ◌<◌, ◌++◌, ◌∷◌, [], OnOk, true, if◌then◌else◌, filter, length, map, slice_get, Some, IsTrue, IfOk};
 ghost use Rattle.std.specs.List.{AllByRecursion, list_all};
-ghost use Rattle.anim_host.specs.MarkLists.{finishes};
-ghost use Rattle.anim_host.specs.Shapes.{at_places, shape_of};
+ghost use Rattle.anim_host.specs.Ticks.{finishes};
+ghost use Rattle.host_tables.specs.Shapes.{at_places, shape_of};
 ghost use Rattle.anim_timeline.specs.Timelines.{IsTime};
 ghost use Rattle.tree_commit.specs.Marks.{finishing_models, is_over, is_running, is_started, start_of};
 ghost use Rattle.tree_commit.specs.Tables.{HasAllTimelines, has_timeline};
 ghost use Rattle.tree_commit.specs.Trees.{has_model};
 
 use crate::models::is_over;
-use crate::row::{runs, shown};
-use crate::shape::Shape;
 use crate::standing::Standing;
+use host_tables::{Shape, runs, shown};
 use keyframe_model::ModelSpec;
 use std::alloc::{AllocError, Global};
 use tree_commit::Commit;

@@ -1,16 +1,16 @@
 ghost use Rattle.std.specs.Prelude.{◌≡◌, ◌≤◌, [], None, Some, IfOk, OnOk, OnErr, length};
 ghost use Rattle.anim_host.specs.declared.TheConstants.{MOST_HOSTED};
 ghost use Rattle.anim_host.specs.Hosting.{HasRoomFor, after_activation, after_push, after_tick, new_hosting, shown_in};
-ghost use Rattle.anim_host.specs.MarkLists.{StartsAreWithin, events_behind};
+ghost use Rattle.host_tables.specs.MarkLists.{StartsAreWithin, events_behind};
 ghost use Rattle.anim_timeline.specs.Timelines.{IsTime};
 ghost use Rattle.tree_commit.specs.Follows.{Follows};
 ghost use Rattle.tree_commit.specs.Trees.{empty_commit};
 
 use crate::aborts::abort_lost;
-use crate::shape::Shape;
 use crate::standing::Standing;
 use crate::ticks::make_tick;
 use anim_names::{AnimEvent, ModelId};
+use host_tables::Shape;
 use std::alloc::{AllocError, Global};
 use std::marker::Model;
 use std::sync::Arc;

@@ -3,20 +3,15 @@
 //! To the layer above it promises that the marks that a tick and an activation make are exactly those of the
 //! definitions, and that what it shows of a model is read off its marks. It keeps one row for each model of its two
 //! commits, the groups of each commit, and a table of elements, and these stand for the commits and the marks after
-//! every mark. It knows neither curves nor frames.
+//! every mark. It knows neither curves nor frames, and how a table keeps what it says is the tables' own.
 #![tactic(auto)]
 
 mod aborts;
-mod elements;
 mod ends;
 mod finish;
 mod host;
 pub mod laws;
-mod mark_list;
 mod models;
-mod row;
-mod rows;
-mod shape;
 mod standing;
 mod starts;
 mod ticks;
@@ -25,10 +20,6 @@ pub use host::AnimHost;
 
 /// The most keyframe models that a host may be made for: 2^30.
 pub const MOST_HOSTED: u32 = 1 << 30;
-
-/// The most marks that a host keeps: 2^32, so that the index of each is a `u32`. Two for each of the most keyframe
-/// models are fewer.
-pub const MOST_MARKS: usize = 1 << 32;
 
 #[cfg(test)]
 mod tests;

@@ -1,14 +1,15 @@
 ghost use Rattle.std.specs.Prelude.{◌≡◌, ◌≢◌, ◌++◌, not, ◌≤◌, ◌<◌, ◌+◌, ℕ, [], ◌∷◌, length, List, map, nat_eq, unsigned_abs, IfSome, true, false, None, Some, IfOk, OnOk, OnErr, option_map, if◌then◌else◌};
 ghost use Rattle.std.specs.List.{list_any};
 ghost use Rattle.anim_timeline.specs.declared.TheConstants.{LAST_TIME};
-ghost use Rattle.anim_host.specs.MarkLists.{StartIsWithin};
-ghost use Rattle.anim_host.specs.Fits.{IsOf, IsReleased, IsThereIfRunning, MarksFit};
+ghost use Rattle.host_tables.specs.MarkLists.{StartIsWithin};
+ghost use Rattle.anim_host.specs.Fits.{IsOf, IsThereIfRunning, MarksFit};
+ghost use Rattle.host_tables.specs.Blocks.{IsReleased};
 ghost use Rattle.anim_names.specs.declared.lane.Tree as lane;
 ghost use Rattle.element_anims.specs.Elements.{is_present};
 ghost use Rattle.tree_commit.specs.declared.runs.mark.Mark.TheVariants.{Started};
-ghost use Rattle.anim_host.specs.Rows.{row_at};
+ghost use Rattle.host_tables.specs.Rows.{row_at};
 ghost use Rattle.anim_host.specs.Standing.{Stood, with_new};
-ghost use Rattle.anim_host.specs.States.{FinishesStarted, is_among, row_for, shown_at, state_of};
+ghost use Rattle.host_tables.specs.States.{FinishesStarted, is_among, row_for, shown_at, state_of};
 ghost use Rattle.keyframe_effect.specs.declared.state.RunState.TheVariants.{Waiting};
 ghost use Rattle.keyframe_effect.specs.States as state;
 ghost use Rattle.keyframe_effect.specs.States.{is_unfinished};
@@ -19,12 +20,10 @@ ghost use Rattle.tree_commit.specs.Frames.{shown_by};
 ghost use Rattle.tree_commit.specs.Marks.{aborts, blocks, ends, is_blocked_for, is_ended, is_group_running, is_running, is_started, model_of, starts_in};
 ghost use Rattle.tree_commit.specs.Trees.{empty_commit, has_element, has_model};
 
-use crate::elements::{self, announce, hold, release, swap};
-use crate::mark_list::MarkList;
-use crate::row;
-use crate::rows::RowTable;
 use anim_names::{ElementId, GroupId, ModelId, Property};
 use element_anims::ElementAnims;
+use host_tables::elements::{self, announce, hold, release, swap};
+use host_tables::{MarkList, RowTable, shown};
 use keyframe_effect::RunState;
 use keyframe_model::ModelSpec;
 use std::alloc::{AllocError, Global};
@@ -131,7 +130,7 @@ impl Standing {
         ensures { result ≡ (if has_model self.now.active.tree id then shown_by self.now.list.marks id else None) }
     {
         match self.rows.row(id) {
-            Some(row) if row.in_active => row::shown(row.state),
+            Some(row) if row.in_active => shown(row.state),
             _ => None,
         }
     }

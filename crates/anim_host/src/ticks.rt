@@ -1,12 +1,12 @@
 //! The new marks of a tick.
 
 ghost use Rattle.std.specs.Prelude.{◌≡◌, ◌+◌, ◌≤◌, ◌<◌, ◌++◌, ◌∷◌, [], ℕ, true, length, map, option_map, slice_get, Some, IfOk, OnOk, OnErr};
-ghost use Rattle.anim_host.specs.MarkLists.{start_room};
+ghost use Rattle.anim_host.specs.Ticks.{start_room};
 ghost use Rattle.std.specs.List.{AllByRecursion};
 ghost use Rattle.keyframe_model.specs.Models.{Spec};
 ghost use Rattle.tree_commit.specs.Follows.{IsAmong};
 ghost use Rattle.anim_host.specs.Fits.{AreSettled};
-ghost use Rattle.anim_host.specs.Shapes.{at_places, shape_of};
+ghost use Rattle.host_tables.specs.Shapes.{at_places, shape_of};
 ghost use Rattle.anim_host.specs.Standing.{with_new};
 ghost use Rattle.anim_timeline.specs.Timelines.{IsTime};
 ghost use Rattle.tree_commit.specs.declared.runs.mark.Mark.TheVariants.{Finished};
@@ -15,10 +15,9 @@ ghost use Rattle.tree_commit.specs.Trees.{groups_of};
 
 use crate::ends::end_model;
 use crate::finish::finishing;
-use crate::mark_list::sum;
-use crate::shape::Shape;
 use crate::standing::Standing;
 use crate::starts::{start_groups, start_room};
+use host_tables::{Shape, sum};
 use keyframe_model::ModelSpec;
 use std::alloc::{AllocError, Global};
 use tree_commit::{Commit, Mark};

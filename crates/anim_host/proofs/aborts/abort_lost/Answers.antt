@@ -6,12 +6,12 @@ use Rattle.tree_commit.specs.declared.runs.mark.Mark.TheVariants.{Aborted}
 use Rattle.tree_commit.specs.Marks.{is_ended, is_lost, is_started, marks_of_activation}
 use Rattle.tree_commit.specs.Trees.{has_element, has_model}
 use Rattle.tree_commit.specs.Follows.{IsAmong}
-use Rattle.anim_host.specs.MarkLists.{mark_if}
+use Rattle.host_tables.specs.MarkLists.{mark_if}
 use Rattle.anim_host.specs.Standing.{Stood, with_new}
-use Rattle.anim_host.specs.States.{is_among}
-use Rattle.anim_host.proofs.AmongLemmas.{among-left, apart-behind, found-among}
+use Rattle.host_tables.specs.States.{is_among}
+use Rattle.host_tables.proofs.AmongLemmas.{among-left, apart-behind, found-among}
 use Rattle.anim_host.proofs.GrowLemmas.{gives-if, growing-last, growing-next, one-if}
-use Rattle.anim_host.proofs.StateLemmas.{abort-elsewhere}
+use Rattle.host_tables.proofs.StateLemmas.{abort-elsewhere}
 use Rattle.anim_host.proofs.aborts.abort_lost.Goals as goal
 
 or-fact : (a b : Bool) → b ≡ true → (a || b) ≡ true

@@ -1,7 +1,7 @@
 use Rattle.std.proofs.Common.{◌≡◌, ℕ, true, drop, filter, map}
 use Rattle.tree_commit.specs.declared.runs.mark.Mark.TheVariants.{Aborted}
 use Rattle.tree_commit.specs.Marks.{is_ended, is_lost, is_started}
-use Rattle.anim_host.specs.States.{is_among}
+use Rattle.host_tables.specs.States.{is_among}
 use Rattle.anim_host.proofs.GrowLemmas.{Growing}
 use Rattle.anim_host.proofs.aborts.abort_lost.Given as goal
 

@@ -1,6 +1,6 @@
 use Rattle.std.proofs.Common.{ap, sym, ◌∙◌}
 use Rattle.tree_commit.specs.Trees.{Committed, has_model}
-use Rattle.anim_host.proofs.AmongLemmas.{among-there}
+use Rattle.host_tables.proofs.AmongLemmas.{among-there}
 use Rattle.anim_host.proofs.aborts.abort_one.Goals as goal
 
 pub is_lost-requires : goal.is_lost-requires

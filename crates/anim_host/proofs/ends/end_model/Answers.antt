@@ -5,9 +5,9 @@ use Rattle.keyframe_model.specs.Models.{Spec}
 use Rattle.tree_commit.specs.Marks.{is_running}
 use Rattle.tree_commit.specs.Trees.{Committed}
 use Rattle.anim_host.specs.Fits.{MarksFit}
-use Rattle.anim_host.specs.Shapes.{at_places}
+use Rattle.host_tables.specs.Shapes.{at_places}
 use Rattle.anim_host.proofs.BlockLemmas.{runs-after}
-use Rattle.anim_host.proofs.ShapeLemmas.{places-members, places-within}
+use Rattle.host_tables.proofs.ShapeLemmas.{places-members, places-within}
 use Rattle.anim_host.proofs.ends.end_model.Goals as goal
 
 twice : (b : Bool) → b ≡ not (not b)

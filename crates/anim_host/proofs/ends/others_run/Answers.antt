@@ -5,9 +5,9 @@ use Rattle.std.proofs.lemmas.Option.{slice_get-get_or}
 use Rattle.keyframe_model.specs.Models.{Spec}
 use Rattle.tree_commit.specs.Marks.{is_running}
 use Rattle.tree_commit.specs.Trees.{Committed, has_model}
-use Rattle.anim_host.specs.Shapes.{at_places}
-use Rattle.anim_host.proofs.AmongLemmas.{found-there}
-use Rattle.anim_host.proofs.LoopLemmas.{any-next}
+use Rattle.host_tables.specs.Shapes.{at_places}
+use Rattle.host_tables.proofs.AmongLemmas.{found-there}
+use Rattle.host_tables.proofs.LoopLemmas.{any-next}
 use Rattle.anim_host.proofs.ends.others_run.Goals as goal
 
 pub runs_beside-found-requires : goal.runs_beside-found-requires

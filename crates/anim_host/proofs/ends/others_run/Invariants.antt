@@ -2,7 +2,7 @@ use Rattle.std.proofs.Common.{◌≡◌, not, ◌||◌, drop}
 use Rattle.std.specs.Prelude.{◌==◌, ◌&&◌}
 use Rattle.std.specs.List.{list_any}
 use Rattle.tree_commit.specs.Marks.{is_running}
-use Rattle.anim_host.specs.Shapes.{at_places}
+use Rattle.host_tables.specs.Shapes.{at_places}
 use Rattle.anim_host.proofs.ends.others_run.Given as goal
 
 abbrev pub invariant-loop-index : goal.invariant-loop-index

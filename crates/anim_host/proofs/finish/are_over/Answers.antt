@@ -6,10 +6,10 @@ use Rattle.keyframe_model.specs.Models.{Spec}
 use Rattle.tree_commit.specs.Marks.{is_over, is_running, start_of}
 use Rattle.tree_commit.specs.Tables.{has_timeline}
 use Rattle.tree_commit.specs.Trees.{has_model}
-use Rattle.anim_host.specs.Shapes.{at_places}
-use Rattle.anim_host.proofs.AmongLemmas.{all-at, found-there}
-use Rattle.anim_host.proofs.LoopLemmas.{all-next}
-use Rattle.anim_host.proofs.ShapeLemmas.{all-places}
+use Rattle.host_tables.specs.Shapes.{at_places}
+use Rattle.host_tables.proofs.AmongLemmas.{all-at, found-there}
+use Rattle.host_tables.proofs.LoopLemmas.{all-next}
+use Rattle.host_tables.proofs.ShapeLemmas.{all-places}
 use Rattle.anim_host.proofs.finish.are_over.Goals as goal
 
 pub is_over_or_still-over-requires-clause-there : goal.is_over_or_still-over-requires-clause-there

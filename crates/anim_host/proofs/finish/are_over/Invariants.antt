@@ -2,7 +2,7 @@ use Rattle.std.proofs.Common.{◌≡◌, drop, filter}
 use Rattle.std.specs.Prelude.{◌&&◌}
 use Rattle.std.specs.List.{list_all}
 use Rattle.tree_commit.specs.Marks.{is_over, is_running, start_of}
-use Rattle.anim_host.specs.Shapes.{at_places}
+use Rattle.host_tables.specs.Shapes.{at_places}
 use Rattle.anim_host.proofs.finish.are_over.Given as goal
 
 abbrev pub invariant-loop-index : goal.invariant-loop-index

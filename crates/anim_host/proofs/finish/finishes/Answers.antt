@@ -3,8 +3,8 @@ use Rattle.std.specs.Prelude.{slice_get, ◌&&◌}
 use Rattle.std.specs.List.{list_all}
 use Rattle.keyframe_model.specs.Models.{Spec}
 use Rattle.tree_commit.specs.Marks.{are_over, is_over, is_running, start_of}
-use Rattle.anim_host.specs.Shapes.{at_places, places_in}
-use Rattle.anim_host.proofs.ShapeLemmas.{shape-members, shape-within}
+use Rattle.host_tables.specs.Shapes.{at_places, places_in}
+use Rattle.host_tables.proofs.ShapeLemmas.{shape-members, shape-within}
 use Rattle.anim_host.proofs.finish.finishes.Goals as goal
 
 pub are_over-requires-clause-places : goal.are_over-requires-clause-places

@@ -3,10 +3,10 @@ use Rattle.std.specs.Prelude.{if◌then◌else◌}
 use Rattle.std.specs.List.{AllByRecursion}
 use Rattle.keyframe_model.specs.Models.{Spec}
 use Rattle.tree_commit.specs.Trees.{has_model}
-use Rattle.anim_host.specs.MarkLists.{finishes}
-use Rattle.anim_host.specs.Shapes.{at_places}
-use Rattle.anim_host.proofs.AmongLemmas.{found-there}
-use Rattle.anim_host.proofs.LoopLemmas.{made-last, made-next}
+use Rattle.anim_host.specs.Ticks.{finishes}
+use Rattle.host_tables.specs.Shapes.{at_places}
+use Rattle.host_tables.proofs.AmongLemmas.{found-there}
+use Rattle.host_tables.proofs.LoopLemmas.{made-last, made-next}
 use Rattle.anim_host.proofs.SettleLemmas.{at-pushed, below-pushed, gives-model}
 use Rattle.anim_host.proofs.finish.finishing.Goals as goal
 

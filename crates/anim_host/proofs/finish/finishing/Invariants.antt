@@ -1,8 +1,8 @@
 use Rattle.std.proofs.Common.{◌≡◌, ◌<◌, ◌++◌, drop, filter, length}
 use Rattle.std.specs.List.{AllByRecursion}
 use Rattle.tree_commit.specs.Marks.{finishing_models}
-use Rattle.anim_host.specs.MarkLists.{finishes}
-use Rattle.anim_host.specs.Shapes.{at_places}
+use Rattle.anim_host.specs.Ticks.{finishes}
+use Rattle.host_tables.specs.Shapes.{at_places}
 use Rattle.anim_host.proofs.finish.finishing.Given as goal
 
 abbrev pub invariant-loop-index : goal.invariant-loop-index

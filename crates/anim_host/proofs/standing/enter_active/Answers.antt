@@ -1,8 +1,8 @@
 use Rattle.std.proofs.Common.{◌≡◌, List, arith, ap, ◌∙◌, drop}
 use Rattle.std.proofs.lemmas.List.{drop_all, take_all}
 use Rattle.keyframe_model.specs.Models.{Spec}
-use Rattle.anim_host.specs.Rows.{row_at}
-use Rattle.anim_host.specs.States.{row_for}
+use Rattle.host_tables.specs.Rows.{row_at}
+use Rattle.host_tables.specs.States.{row_for}
 use Rattle.anim_host.proofs.StandLemmas.{entered-next}
 use Rattle.anim_host.proofs.standing.enter_active.Goals as goal
 

@@ -1,9 +1,9 @@
 use Rattle.std.proofs.Common.{◌≡◌, List, arith, ap, ◌∙◌}
 use Rattle.std.proofs.lemmas.List.{take_all}
 use Rattle.keyframe_model.specs.Models.{Spec}
-use Rattle.anim_host.specs.Rows.{row_at}
-use Rattle.anim_host.specs.States.{row_for}
-use Rattle.anim_host.proofs.AmongLemmas.{found-among}
+use Rattle.host_tables.specs.Rows.{row_at}
+use Rattle.host_tables.specs.States.{row_for}
+use Rattle.host_tables.proofs.AmongLemmas.{found-among}
 use Rattle.anim_host.proofs.StandLemmas.{joined-next}
 use Rattle.anim_host.proofs.standing.join_pending.Goals as goal
 

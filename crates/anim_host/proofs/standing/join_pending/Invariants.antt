@@ -1,6 +1,6 @@
 use Rattle.std.proofs.Common.{◌≡◌, ◌≤◌, ◌+◌, ℕ, false, List, [], take, length}
-use Rattle.anim_host.specs.Rows.{row_at}
-use Rattle.anim_host.specs.States.{is_among, row_for, state_of}
+use Rattle.host_tables.specs.Rows.{row_at}
+use Rattle.host_tables.specs.States.{is_among, row_for, state_of}
 use Rattle.keyframe_effect.specs.declared.state.RunState.TheVariants.{Waiting}
 use Rattle.keyframe_model.specs.Models.{Spec}
 use Rattle.tree_commit.specs.declared.runs.mark.Mark.{Mark}

@@ -1,7 +1,7 @@
 use Rattle.std.proofs.Common.{List, ℕ, nat_eq, ap, ◌∙◌}
 use Rattle.std.specs.Prelude.{is_some}
 use Rattle.std.specs.Map.{lookup}
-use Rattle.anim_host.proofs.ShapeLemmas.{shape-has}
+use Rattle.host_tables.proofs.ShapeLemmas.{shape-has}
 use Rattle.anim_host.proofs.starts.has_group.Goals as goal
 
 pub returns : goal.returns

@@ -1,7 +1,7 @@
 use Rattle.std.proofs.Common.{ap, sym, ◌∙◌}
 use Rattle.tree_commit.specs.Marks.{is_ended, is_running}
 use Rattle.tree_commit.specs.Trees.{has_model}
-use Rattle.anim_host.proofs.AmongLemmas.{among-there}
+use Rattle.host_tables.proofs.AmongLemmas.{among-there}
 use Rattle.anim_host.proofs.SettleLemmas.{ended-tells, runs-tells}
 use Rattle.anim_host.proofs.starts.has_started.Goals as goal
 

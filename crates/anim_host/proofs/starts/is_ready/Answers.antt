@@ -3,7 +3,7 @@ use Rattle.std.specs.Prelude.{◌&&◌}
 use Rattle.std.specs.List.{list_all, list_any}
 use Rattle.tree_commit.specs.Marks.{is_ready, may_start, starts_in}
 use Rattle.tree_commit.specs.Trees.{has_group, members_of}
-use Rattle.anim_host.proofs.ShapeLemmas.{places-members, places-within}
+use Rattle.host_tables.proofs.ShapeLemmas.{places-members, places-within}
 use Rattle.anim_host.proofs.starts.is_ready.Goals as goal
 
 pub may_all_start-requires-clause-places : goal.may_all_start-requires-clause-places

@@ -6,12 +6,12 @@ use Rattle.keyframe_model.specs.Models.{Spec}
 use Rattle.tree_commit.specs.Follows.{IsAmong}
 use Rattle.tree_commit.specs.Marks.{starts_in}
 use Rattle.tree_commit.specs.Trees.{Committed, has_group}
-use Rattle.anim_host.specs.Shapes.{at_places}
-use Rattle.anim_host.proofs.AmongLemmas.{found-among}
+use Rattle.host_tables.specs.Shapes.{at_places}
+use Rattle.host_tables.proofs.AmongLemmas.{found-among}
 use Rattle.anim_host.proofs.BlockLemmas.{filter-among}
 use Rattle.anim_host.proofs.FitLemmas.{any-true}
 use Rattle.anim_host.proofs.SettleLemmas.{at-among, no-places}
-use Rattle.anim_host.proofs.ShapeLemmas.{places-members, places-within}
+use Rattle.host_tables.proofs.ShapeLemmas.{places-members, places-within}
 use Rattle.anim_host.proofs.starts.is_waiting.Goals as goal
 
 empty : (places : List ℕ) → slice_get places 0 ≡ None → places ≡ []

@@ -4,8 +4,8 @@ use Rattle.std.specs.List.{list_all, cons_option}
 use Rattle.std.proofs.lemmas.Option.{slice_get-get_or}
 use Rattle.keyframe_model.specs.Models.{Spec}
 use Rattle.tree_commit.specs.Marks.{may_start}
-use Rattle.anim_host.specs.Shapes.{at_places}
-use Rattle.anim_host.proofs.LoopLemmas.{all-next}
+use Rattle.host_tables.specs.Shapes.{at_places}
+use Rattle.host_tables.proofs.LoopLemmas.{all-next}
 use Rattle.anim_host.proofs.starts.may_all_start.Goals as goal
 
 pub loop-index-preserved : goal.loop-index-preserved

@@ -8,7 +8,7 @@ use Rattle.tree_commit.specs.Follows.{IsAmong}
 use Rattle.tree_commit.specs.Trees.{Committed}
 use Rattle.anim_host.specs.Fits.{AreSettled, MarksFit}
 use Rattle.anim_host.proofs.SettleLemmas.{may-start-in, ready-waits, settled-group}
-use Rattle.anim_host.proofs.ShapeLemmas.{filter-fewer, places-length, places-members, places-within}
+use Rattle.host_tables.proofs.ShapeLemmas.{filter-fewer, places-length, places-members, places-within}
 use Rattle.anim_host.proofs.starts.start_group.Goals as goal
 
 pub start_members-requires-clause-room : goal.start_members-requires-clause-room

@@ -1,13 +1,13 @@
 use Rattle.std.proofs.Common.{◌≡◌, ◌≤◌, length, ap, ◌∙◌, arith}
 use Rattle.tree_commit.specs.Trees.{groups_of}
-use Rattle.anim_host.specs.MarkLists.{with_marks}
+use Rattle.host_tables.specs.MarkLists.{with_marks}
 use Rattle.anim_host.specs.Standing.{Stood}
 use Rattle.tree_commit.specs.Trees.{Committed}
 use Rattle.std.proofs.Common.{Option}
 use Rattle.tree_commit.specs.Marks.{group_marks}
 use Rattle.anim_host.proofs.GrowLemmas.{stood-same}
-use Rattle.anim_host.proofs.LoopLemmas.{drop-found}
-use Rattle.anim_host.proofs.ShapeLemmas.{group-count, group-found}
+use Rattle.host_tables.proofs.LoopLemmas.{drop-found}
+use Rattle.host_tables.proofs.ShapeLemmas.{group-count, group-found}
 use Rattle.anim_host.proofs.StartLemmas.{starting-last, starting-next}
 use Rattle.anim_host.proofs.starts.start_groups.Goals as goal
 

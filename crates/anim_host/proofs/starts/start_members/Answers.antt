@@ -9,9 +9,9 @@ use Rattle.tree_commit.specs.Marks.{blocks, is_ended, is_group_running, recorded
 use Rattle.tree_commit.specs.Tables.{has_timeline}
 use Rattle.tree_commit.specs.Trees.{time_of}
 use Rattle.anim_host.specs.Fits.{MayStartIn}
-use Rattle.anim_host.specs.Shapes.{at_places}
+use Rattle.host_tables.specs.Shapes.{at_places}
 use Rattle.anim_host.specs.Standing.{Stood, with_new}
-use Rattle.anim_host.proofs.AmongLemmas.{all-at, found-among}
+use Rattle.host_tables.proofs.AmongLemmas.{all-at, found-among}
 use Rattle.anim_host.proofs.BlockLemmas.{alive-same, blocks-elsewhere}
 use Rattle.anim_host.proofs.GrowLemmas.{growing-last, growing-next, growing-start}
 use Rattle.anim_host.proofs.SettleLemmas.{at-among, start-whole, waits-whole}

@@ -2,7 +2,7 @@ use Rattle.std.proofs.Common.{◌≡◌, ◌≢◌, ℕ, map}
 use Rattle.std.specs.List.{list_any}
 use Rattle.anim_names.specs.declared.property.Property.{Property}
 use Rattle.tree_commit.specs.Marks.{blocks, is_ended, is_group_running, start_mark, starts_in}
-use Rattle.anim_host.specs.Shapes.{at_places}
+use Rattle.host_tables.specs.Shapes.{at_places}
 use Rattle.anim_host.proofs.GrowLemmas.{Growing}
 use Rattle.anim_host.proofs.starts.start_members.Given as goal
 

@@ -1,9 +1,9 @@
 use Rattle.std.proofs.Common.{◌≡◌, ◌≤◌, ◌+◌, drop, length, ap, arith}
 use Rattle.std.proofs.lemmas.List.{drop_all}
 use Rattle.tree_commit.specs.Trees.{groups_of, members_of}
-use Rattle.anim_host.specs.MarkLists.{start_room}
-use Rattle.anim_host.proofs.LoopLemmas.{drop-found}
-use Rattle.anim_host.proofs.ShapeLemmas.{group-count, group-found, places-length}
+use Rattle.anim_host.specs.Ticks.{start_room}
+use Rattle.host_tables.proofs.LoopLemmas.{drop-found}
+use Rattle.host_tables.proofs.ShapeLemmas.{group-count, group-found, places-length}
 use Rattle.anim_host.proofs.starts.start_room.Goals as goal
 
 pub loop-index-preserved : goal.loop-index-preserved

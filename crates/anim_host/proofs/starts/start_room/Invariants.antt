@@ -1,6 +1,6 @@
 use Rattle.std.proofs.Common.{◌≡◌, ◌+◌, drop}
 use Rattle.tree_commit.specs.Trees.{groups_of}
-use Rattle.anim_host.specs.MarkLists.{start_room}
+use Rattle.anim_host.specs.Ticks.{start_room}
 use Rattle.anim_host.proofs.starts.start_room.Given as goal
 
 abbrev pub invariant-loop-index : goal.invariant-loop-index

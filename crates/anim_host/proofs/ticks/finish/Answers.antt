@@ -7,12 +7,12 @@ use Rattle.tree_commit.specs.declared.runs.mark.Mark.TheVariants.{Finished}
 use Rattle.tree_commit.specs.Follows.{IsAmong}
 use Rattle.tree_commit.specs.Marks.{is_started}
 use Rattle.anim_host.specs.Fits.{AreSettled}
-use Rattle.anim_host.specs.Shapes.{at_places}
+use Rattle.host_tables.specs.Shapes.{at_places}
 use Rattle.anim_host.specs.Standing.{Stood, with_new}
-use Rattle.anim_host.proofs.AmongLemmas.{found-among}
+use Rattle.host_tables.proofs.AmongLemmas.{found-among}
 use Rattle.anim_host.proofs.GrowLemmas.{growing-last, growing-next, growing-start}
 use Rattle.anim_host.proofs.SettleLemmas.{at-among, settled-end}
-use Rattle.anim_host.proofs.StateLemmas.{started-grows}
+use Rattle.host_tables.proofs.StateLemmas.{started-grows}
 use Rattle.anim_host.proofs.ticks.finish.Goals as goal
 
 pub loop-index-init : goal.loop-index-init

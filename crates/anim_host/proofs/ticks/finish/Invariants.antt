@@ -2,7 +2,7 @@ use Rattle.std.proofs.Common.{◌≡◌, ℕ, true, map}
 use Rattle.tree_commit.specs.declared.runs.mark.Mark.TheVariants.{Finished}
 use Rattle.tree_commit.specs.Marks.{is_started}
 use Rattle.anim_host.specs.Fits.{AreSettled}
-use Rattle.anim_host.specs.Shapes.{at_places}
+use Rattle.host_tables.specs.Shapes.{at_places}
 use Rattle.anim_host.proofs.GrowLemmas.{Growing}
 use Rattle.anim_host.proofs.ticks.finish.Given as goal
 

@@ -6,13 +6,13 @@ use Rattle.tree_commit.specs.declared.runs.mark.Mark.TheVariants.{Finished}
 use Rattle.tree_commit.specs.Follows.{IsAmong}
 use Rattle.tree_commit.specs.Marks.{are_over, finish_marks, finishing_models, is_running, marks_of_tick, start_marks}
 use Rattle.tree_commit.specs.Trees.{Committed, groups_of}
-use Rattle.anim_host.specs.MarkLists.{finishes}
-use Rattle.anim_host.specs.Shapes.{at_places}
+use Rattle.anim_host.specs.Ticks.{finishes}
+use Rattle.host_tables.specs.Shapes.{at_places}
 use Rattle.anim_host.specs.Standing.{Stood, with_new}
 use Rattle.anim_host.proofs.BlockLemmas.{and-first, filter-among}
 use Rattle.anim_host.proofs.GrowLemmas.{two-steps}
-use Rattle.anim_host.proofs.ShapeLemmas.{below-at, filter-fewer, length-places}
-use Rattle.anim_host.proofs.StateLemmas.{running-started}
+use Rattle.host_tables.proofs.ShapeLemmas.{below-at, filter-fewer, length-places}
+use Rattle.host_tables.proofs.StateLemmas.{running-started}
 use Rattle.anim_host.proofs.ticks.make_marks.Goals as goal
 
 pub finish-requires-clause-started : goal.finish-requires-clause-started

@@ -6,7 +6,7 @@ use Rattle.tree_commit.specs.Follows.{Follows, IsAmong}
 use Rattle.tree_commit.specs.Marks.{marks_of_activation}
 use Rattle.tree_commit.specs.Trees.{Committed}
 use Rattle.anim_host.specs.Fits.{AreSettled, IsThereIfRunning, MarksFit}
-use Rattle.anim_host.specs.Shapes.{shape_of}
+use Rattle.host_tables.specs.Shapes.{shape_of}
 use Rattle.anim_host.specs.Standing.{Stood, with_new}
 use Rattle.anim_host.proofs.SettleLemmas.{running-over, settled-over}
 use Rattle.anim_host.proofs.host.AnimHost.activate.Goals as goal

@@ -1,14 +1,14 @@
 use Rattle.std.proofs.Common.{◌≡◌, ◌∷◌, [], ◌++◌, Bool, true, false, not, ap, refl, ◌∙◌}
 use Rattle.std.specs.Prelude.{option_map}
 use Rattle.tree_commit.specs.Marks.{is_group_running}
-use Rattle.anim_host.specs.MarkLists.{Marked}
-use Rattle.anim_host.specs.Rows.{row_at}
-use Rattle.anim_host.specs.States.{models_of}
+use Rattle.host_tables.specs.MarkLists.{Marked}
+use Rattle.host_tables.specs.Rows.{row_at}
+use Rattle.host_tables.specs.States.{models_of}
 use Rattle.anim_host.proofs.BlockLemmas.{end-frees, end-keeps}
-use Rattle.anim_host.proofs.ElementLemmas.{presence-same}
+use Rattle.host_tables.proofs.ElementLemmas.{presence-same}
 use Rattle.anim_host.proofs.FitLemmas.{fits-next, follows-more}
 use Rattle.anim_host.proofs.StandLemmas.{advanced-next}
-use Rattle.anim_host.proofs.StateLemmas.{finishes-started}
+use Rattle.host_tables.proofs.StateLemmas.{finishes-started}
 use Rattle.anim_host.proofs.standing.Standing.end.Goals as goal
 
 by-test : {A : Type 0} (b : Bool) → (b ≡ true → A) → (b ≡ false → A) → A

@@ -1,7 +1,7 @@
 use Rattle.std.proofs.Common.{◌≡◌, [], ap, sym, ◌∙◌}
 use Rattle.anim_names.specs.declared.lane.Tree.TheVariants.{Active, Pending}
-use Rattle.anim_host.specs.Fits.{is_held_by}
-use Rattle.anim_host.specs.MarkLists.{Marked}
+use Rattle.host_tables.specs.Blocks.{is_held_by}
+use Rattle.host_tables.specs.MarkLists.{Marked}
 use Rattle.anim_host.proofs.FitLemmas.{fits-nothing}
 use Rattle.anim_host.proofs.StandLemmas.{row-nowhere}
 use Rattle.anim_host.proofs.standing.Standing.new.Goals as goal

@@ -3,11 +3,11 @@ use Rattle.std.specs.Prelude.{option_map}
 use Rattle.tree_commit.specs.Trees.{Committed}
 use Rattle.tree_commit.specs.Follows.{Follows}
 use Rattle.keyframe_model.specs.Models.{Spec}
-use Rattle.anim_host.specs.Elements.{PresenceStands}
-use Rattle.anim_host.specs.MarkLists.{Marked}
-use Rattle.anim_host.specs.States.{models_of, row_for}
-use Rattle.anim_host.proofs.ElementLemmas.{blocks-same, presence-announced, presence-same}
-use Rattle.anim_host.proofs.StateLemmas.{follows-waits}
+use Rattle.host_tables.specs.Elements.{PresenceStands}
+use Rattle.host_tables.specs.MarkLists.{Marked}
+use Rattle.host_tables.specs.States.{models_of, row_for}
+use Rattle.host_tables.proofs.ElementLemmas.{blocks-same, presence-announced, presence-same}
+use Rattle.host_tables.proofs.StateLemmas.{follows-waits}
 use Rattle.anim_host.proofs.standing.Standing.push_commit.Goals as goal
 
 pub invariant_of-self-in_err-reserve-2 : goal.invariant_of-self-in_err-reserve-2

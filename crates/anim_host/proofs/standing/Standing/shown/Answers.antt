@@ -1,9 +1,9 @@
 use Rattle.std.proofs.Common.{◌≡◌, None, true, false, ap, sym, ◌∙◌}
 use Rattle.std.specs.Prelude.{option_map, if◌then◌else◌}
 use Rattle.tree_commit.specs.Frames.{shown_by}
-use Rattle.anim_host.specs.States.{is_among, models_of, shown_at}
+use Rattle.host_tables.specs.States.{is_among, models_of, shown_at}
 use Rattle.anim_host.proofs.StandLemmas.{row-active, row-none, row-state}
-use Rattle.anim_host.proofs.StateLemmas.{state-shown}
+use Rattle.host_tables.proofs.StateLemmas.{state-shown}
 use Rattle.anim_host.proofs.standing.Standing.shown.Goals as goal
 
 pub returns-in-Some : goal.returns-in-Some

@@ -2,14 +2,14 @@ use Rattle.std.proofs.Common.{◌≡◌, ◌∷◌, [], ◌++◌, ap, refl, to_z
 use Rattle.std.specs.Prelude.{option_map, ℤ}
 use Rattle.keyframe_model.specs.Models.{property_of}
 use Rattle.tree_commit.specs.declared.runs.mark.Mark.TheVariants.{Started}
-use Rattle.anim_host.specs.MarkLists.{Marked}
-use Rattle.anim_host.specs.Rows.{row_at}
-use Rattle.anim_host.specs.States.{models_of}
+use Rattle.host_tables.specs.MarkLists.{Marked}
+use Rattle.host_tables.specs.Rows.{row_at}
+use Rattle.host_tables.specs.States.{models_of}
 use Rattle.anim_host.proofs.BlockLemmas.{free-or-own, start-blocks}
-use Rattle.anim_host.proofs.ElementLemmas.{presence-same}
+use Rattle.host_tables.proofs.ElementLemmas.{presence-same}
 use Rattle.anim_host.proofs.FitLemmas.{fits-next, follows-more}
 use Rattle.anim_host.proofs.StandLemmas.{advanced-next}
-use Rattle.anim_host.proofs.StateLemmas.{finishes-started}
+use Rattle.host_tables.proofs.StateLemmas.{finishes-started}
 use Rattle.anim_host.proofs.standing.Standing.start.Goals as goal
 
 pub hold-requires-clause-free : goal.hold-requires-clause-free

@@ -2,9 +2,9 @@ use Rattle.std.proofs.Common.{◌≤◌, Option, ap, sym, subst, ◌∙◌}
 use Rattle.std.specs.Prelude.{unsigned_abs, IfSome}
 use Rattle.anim_timeline.specs.declared.TheConstants.{LAST_TIME}
 use Rattle.tree_commit.specs.declared.runs.shown.Shown.{Shown}
-use Rattle.anim_host.specs.States.{shown_at}
+use Rattle.host_tables.specs.States.{shown_at}
 use Rattle.keyframe_effect.specs.States.{is_ended, is_unfinished}
-use Rattle.anim_host.proofs.StateLemmas.{shown-within, state-ended, state-runs, state-shown}
+use Rattle.host_tables.proofs.StateLemmas.{shown-within, state-ended, state-runs, state-shown}
 use Rattle.anim_host.proofs.standing.Standing.state.Goals as goal
 
 pub returns : goal.returns

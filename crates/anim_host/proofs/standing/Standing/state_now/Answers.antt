@@ -1,6 +1,6 @@
 use Rattle.std.proofs.Common.{sym, ◌∙◌}
 use Rattle.std.specs.Prelude.{option_map}
-use Rattle.anim_host.specs.States.{models_of}
+use Rattle.host_tables.specs.States.{models_of}
 use Rattle.anim_host.proofs.StandLemmas.{row-none, row-state}
 use Rattle.anim_host.proofs.standing.Standing.state_now.Goals as goal
 

@@ -6,10 +6,10 @@ use Rattle.std.specs.declared.sync.Arc.{Arc}
 use Rattle.tree_commit.specs.Trees.{Committed, has_element}
 use Rattle.tree_commit.specs.Follows.{Follows}
 use Rattle.tree_commit.specs.declared.runs.mark.Mark.{Mark}
-use Rattle.anim_host.specs.Elements.{PresenceStands}
+use Rattle.host_tables.specs.Elements.{PresenceStands}
 use Rattle.anim_host.specs.Fits.{IsThereIfRunning}
-use Rattle.anim_host.specs.States.{models_of, row_for}
-use Rattle.anim_host.proofs.ElementLemmas.{blocks-same}
+use Rattle.host_tables.specs.States.{models_of, row_for}
+use Rattle.host_tables.proofs.ElementLemmas.{blocks-same}
 use Rattle.anim_host.proofs.FitLemmas.{fits-over}
 use Rattle.anim_host.proofs.standing.Standing.take_over.Goals as goal
 

@@ -1,8 +1,0 @@
-use Rattle.std.proofs.Common.{true, take}
-use Rattle.anim_names.specs.declared.lane.Tree.TheVariants.{Active}
-use Rattle.anim_host.specs.Elements.{AreSet}
-use Rattle.anim_host.proofs.elements.promote.Given as goal
-
-abbrev pub invariant-loop-index : goal.invariant-loop-index
-invariant-loop-index l =
-    AreSet Active (take l.index l.commit.tree.elements) true l.fn.table l.table

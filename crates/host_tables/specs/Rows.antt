@@ -1,0 +1,49 @@
+-- The rows that the host keeps of models.
+use Rattle.std.specs.Prelude.{◌≡◌, ℕ, nat_eq, List, Option, Some, None, option_and_then, option_map, slice_index_or, count_by, is_some, true, false, if◌then◌else◌}
+use Rattle.std.specs.Map.{lookup}
+use Rattle.host_tables.specs.declared.row.ModelRow.{ModelRow}
+use Rattle.keyframe_effect.specs.declared.state.RunState.TheVariants as state
+use Rattle.host_tables.specs.States.{advanced}
+use Rattle.tree_commit.specs.declared.runs.mark.Mark.{Mark}
+
+-- A slab of rows; under the id of each model the place of its row; and for how many more rows there is room.
+pub record Rows : Type 0 where
+  pub slots : List (Option ModelRow)
+  pub places : List (ℕ × ℕ)
+  pub room : ℕ
+
+-- the row at a place
+abbrev pub slot_at : List (Option ModelRow) → ℕ → Option ModelRow
+slot_at slots place = slice_index_or slots place None
+
+-- the row of a model
+abbrev pub row_at : Rows → ℕ → Option ModelRow
+row_at rows id = option_and_then (slot_at rows.slots) (lookup (nat_eq id) rows.places)
+
+-- how many rows there are
+abbrev pub row_count : Rows → ℕ
+row_count rows = count_by is_some rows.slots
+
+-- the place of each id is that of the row of the model with that id
+abbrev pub PlacesLead : List (Option ModelRow) → List (ℕ × ℕ) → Type 0
+PlacesLead slots places =
+    (id place : ℕ) → lookup (nat_eq id) places ≡ Some place → option_map (λ row. row.model) (slot_at slots place) ≡ Some id
+
+-- ---- what becomes of a row as the commits change
+
+-- the row with one more mark about its model, which has this index
+abbrev pub advanced_row : Mark → ℕ → ModelRow → ModelRow
+advanced_row mark order row = record row { state = advanced row.state mark order }
+
+-- the row of a model that is in the pending commit from now on; one that had none waits
+abbrev pub joined : ℕ → Option ModelRow → ModelRow
+joined id None = record { model = id; state = state.Waiting; in_active = false; in_pending = true }
+joined id (Some row) = record row { in_pending = true }
+
+-- the row of a model that is in the active commit no more: none where it is not in the pending one either
+abbrev pub left : ModelRow → Option ModelRow
+left row = if row.in_pending then Some (record row { in_active = false }) else None
+
+-- the row of a model that is in the active commit, and not in the pending one
+abbrev pub entered : ModelRow → ModelRow
+entered row = record row { in_active = true; in_pending = false }

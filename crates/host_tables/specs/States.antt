@@ -1,0 +1,82 @@
+-- How far each model has come, by the marks; and the rows that there are, by the commits and the marks.
+use Rattle.std.specs.Prelude.{◌≡◌, ℕ, ◌==◌, Bool, true, false, ℤ, List, [], Option, Some, None}
+use Rattle.std.specs.List.{list_any}
+use Rattle.keyframe_model.specs.Models.{Spec}
+use Rattle.tree_commit.specs.declared.runs.mark.Mark.{Mark}
+use Rattle.tree_commit.specs.declared.runs.mark.Mark.TheVariants.{Started, Finished, Aborted}
+use Rattle.tree_commit.specs.declared.runs.shown.Shown.{Shown}
+use Rattle.tree_commit.specs.Trees.{Committed}
+use Rattle.tree_commit.specs.Marks.{is_aborted, is_ended, is_started, start_of}
+use Rattle.host_tables.specs.declared.row.ModelRow.{ModelRow}
+use Rattle.keyframe_effect.specs.States.{after_finish}
+use Rattle.keyframe_effect.specs.declared.state.RunState.{RunState}
+use Rattle.keyframe_effect.specs.declared.state.RunState.TheVariants as state
+
+-- ---- how far a model has come
+
+-- by its recorded start, and by whether it ended
+abbrev pub run_of : Bool → Option Shown → RunState
+run_of ended None = state.Waiting
+run_of true (Some shown) = state.Finished shown.start shown.order
+run_of false (Some shown) = state.Running shown.start shown.order
+
+-- by whether it was aborted and ended, and by its recorded start
+abbrev pub state_from : Bool → Bool → Option Shown → RunState
+state_from true ended start = state.Aborted
+state_from false ended start = run_of ended start
+
+-- what the marks say
+unfoldable pub state_of : List Mark → ℕ → RunState
+state_of marks id = state_from (is_aborted marks id) (is_ended marks id) (start_of marks id)
+
+-- Nothing finished that had not started.
+abbrev pub FinishesStarted : List Mark → Type 0
+FinishesStarted marks =
+    (id : ℕ) → is_ended marks id ≡ true → is_aborted marks id ≡ false → is_started marks id ≡ true
+
+-- ---- what one more mark changes
+
+-- a waiting model runs
+abbrev pub started : RunState → ℤ → ℕ → RunState
+started state.Waiting start order = state.Running start order
+started (state.Running begun place) start order = state.Running begun place
+started (state.Done begun place) start order = state.Done begun place
+started (state.Finished begun place) start order = state.Finished begun place
+started state.Aborted start order = state.Aborted
+
+-- the state of a model with one more mark about it, which has this index
+abbrev pub advanced : RunState → Mark → ℕ → RunState
+advanced before (Started model group element property at start) order = started before start order
+advanced before (Finished model at) order = after_finish before
+advanced before (Aborted model commit) order = state.Aborted
+
+-- ---- what a state says
+
+-- what is shown of a model in this state
+abbrev pub shown_at : RunState → Option Shown
+shown_at state.Waiting = None
+shown_at (state.Running start order) = Some (record { start = start; order = order })
+shown_at (state.Done start order) = Some (record { start = start; order = order })
+shown_at (state.Finished start order) = Some (record { start = start; order = order })
+shown_at state.Aborted = None
+
+-- ---- rows
+
+-- one of the models has this id
+abbrev pub is_among : List Spec → ℕ → Bool
+is_among models id = list_any (λ model. id == model.id) models
+
+-- the row of a model, by whether it is in either commit
+abbrev pub row_if : Bool → Bool → List Mark → ℕ → Option ModelRow
+row_if false false marks id = None
+row_if true pending marks id = Some (record { model = id; state = state_of marks id; in_active = true; in_pending = pending })
+row_if false true marks id = Some (record { model = id; state = state_of marks id; in_active = false; in_pending = true })
+
+-- the row of a model, where these models are in the active commit and those in the pending one
+unfoldable pub row_for : List Spec → List Spec → List Mark → ℕ → Option ModelRow
+row_for active pending marks id = row_if (is_among active id) (is_among pending id) marks id
+
+-- the models of the pending commit
+abbrev pub models_of : Option Committed → List Spec
+models_of None = []
+models_of (Some commit) = commit.tree.models
