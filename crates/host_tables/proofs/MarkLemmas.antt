@@ -1,8 +1,6 @@
 -- The start of a model, as it is read off the marks.
 use Rattle.std.proofs.Common.{◌≡◌, ℕ, ◌+◌, ◌≤◌, Bool, true, false, List, [], ◌∷◌, Option, Some, None, refl, ap, ◌∙◌}
-use Rattle.std.specs.Prelude.{ℤ, unsigned_abs, IfSome, ◌&&◌, ◌||◌, ◌==◌, not, filter_map, if◌then◌else◌}
-use Rattle.std.specs.List.{list_any}
-use Rattle.anim_names.specs.declared.property.Property.{Property}
+use Rattle.std.specs.Prelude.{ℤ, unsigned_abs, IfSome, ◌==◌, if◌then◌else◌}
 use Rattle.tree_commit.specs.declared.runs.mark.Mark.{Mark}
 use Rattle.tree_commit.specs.declared.runs.mark.Mark.TheVariants.{Started, Finished, Aborted}
 use Rattle.tree_commit.specs.declared.runs.shown.Shown.{Shown}
