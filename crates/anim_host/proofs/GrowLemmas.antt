@@ -11,18 +11,19 @@ use Rattle.anim_host.specs.Standing.{Stood, with_new}
 use Rattle.host_tables.proofs.LoopLemmas.{made-last, made-next}
 use Rattle.anim_host.proofs.PushLemmas.{with-marks}
 
-stood : Committed → Option Committed → Marked → Stood
-stood active pending list = record { active = active; pending = pending; list = list }
+stood : Committed → Option Committed → Marked → ℕ → Stood
+stood active pending list tick = record { active = active; pending = pending; list = list; last_tick = tick }
 
 -- other marks, and all else as it was
 pub stood-same : (old now : Stood) (marks : List Mark)
-    → now.active ≡ old.active → now.pending ≡ old.pending → now.list ≡ with_marks old.list marks
+    → now.active ≡ old.active → now.pending ≡ old.pending → now.list ≡ with_marks old.list marks → now.last_tick ≡ old.last_tick
     → now ≡ with_new old marks
 unfolding stood
-stood-same old now marks active pending list =
-    ap (λ (a : Committed). stood a now.pending now.list) active
-    ∙ ap (λ (p : Option Committed). stood old.active p now.list) pending
-    ∙ ap (λ (l : Marked). stood old.active old.pending l) list
+stood-same old now marks active pending list tick =
+    ap (λ (a : Committed). stood a now.pending now.list now.last_tick) active
+    ∙ ap (λ (p : Option Committed). stood old.active p now.list now.last_tick) pending
+    ∙ ap (λ (l : Marked). stood old.active old.pending l now.last_tick) list
+    ∙ ap (λ (t : ℕ). stood old.active old.pending (with_marks old.list marks) t) tick
 
 -- The elements before the index had their turn, with one mark at most each: what is made, and what the rest gives, is all.
 pub record Growing {X : Type 0} (F : List X → List Mark) (xs : List X) (index : ℕ) (old now : Stood) : Type 0 where
@@ -32,6 +33,7 @@ pub record Growing {X : Type 0} (F : List X → List Mark) (xs : List X) (index 
   pub room : now.list.room ≡ old.list.room
   pub active : now.active ≡ old.active
   pub pending : now.pending ≡ old.pending
+  pub tick : now.last_tick ≡ old.last_tick
 
 pub growing-start : {X : Type 0} (F : List X → List Mark) (xs : List X) (old : Stood) → Growing F xs 0 old old
 growing-start F xs old = record {
@@ -41,6 +43,7 @@ growing-start F xs old = record {
   room = refl;
   active = refl;
   pending = refl;
+  tick = refl;
 }
 
 pub growing-next : {X : Type 0} (F : List X → List Mark) (xs : List X) (index : ℕ) (old now new : Stood) (x : X) (step : List Mark)
@@ -60,6 +63,7 @@ growing-next F xs index old now new x step found gives one is so_far =
       room = ap (λ (s : Stood). s.list.room) is ∙ so_far.room;
       active = ap (λ (s : Stood). s.active) is ∙ so_far.active;
       pending = ap (λ (s : Stood). s.pending) is ∙ so_far.pending;
+      tick = ap (λ (s : Stood). s.last_tick) is ∙ so_far.tick;
     }
 
 pub growing-last : {X : Type 0} (F : List X → List Mark) (xs : List X) (index : ℕ) (old now : Stood)
@@ -70,6 +74,7 @@ pub growing-last : {X : Type 0} (F : List X → List Mark) (xs : List X) (index 
 growing-last F xs index old now past none so_far =
     stood-same old now (F xs) so_far.active so_far.pending
     (with-marks old.list now.list _ (made-last F xs index now.list.marks _ past none so_far.made) so_far.cleared so_far.room)
+    so_far.tick
 
 -- a mark for each model that a test lets through
 pub gives-if : (test : Spec → Bool) (mark : Spec → Mark) (model : Spec) (models : List Spec) (b : Bool)

@@ -6,3 +6,4 @@ pub mod GrowLemmas
 pub mod FitLemmas
 pub mod BlockLemmas
 pub mod SettleLemmas
+pub mod OverLemmas

@@ -1,33 +1,43 @@
 -- What the tables of a host stand for: the active commit, the pending one or none, and the marks.
-use Rattle.std.specs.Prelude.{◌≡◌, ℕ, ◌+◌, ◌≤◌, List, length, Option, IfSome, option_map}
+use Rattle.std.specs.Prelude.{◌≡◌, ℕ, ◌+◌, ◌≤◌, true, List, length, Option, IfSome, option_map}
 use Rattle.host_tables.specs.Shapes.{shape_of}
 use Rattle.tree_commit.specs.declared.runs.mark.Mark.{Mark}
 use Rattle.element_anims.specs.Elements.{Anims}
-use Rattle.tree_commit.specs.Follows.{Follows}
-use Rattle.tree_commit.specs.Trees.{Committed}
+use Rattle.keyframe_model.specs.Models.{Spec}
+use Rattle.tree_commit.specs.Follows.{Follows, IsAmong}
+use Rattle.tree_commit.specs.Marks.{is_over, start_of}
+use Rattle.tree_commit.specs.Trees.{Committed, TreeLists}
 use Rattle.host_tables.specs.Elements.{PresenceStands}
 use Rattle.anim_host.specs.Fits.{AreSettled, MarksFit}
 use Rattle.host_tables.specs.Blocks.{BlocksStand}
 use Rattle.host_tables.specs.MarkLists.{Marked, with_marks}
-use Rattle.host_tables.specs.Rows.{Rows, row_at}
+use Rattle.host_tables.specs.Rows.{Rows, marked_at, row_at, says_over}
 use Rattle.host_tables.specs.States.{FinishesStarted, models_of, row_for}
 
--- The tables stand for these commits and these marks. Each model of either commit has its row, which says in which of
--- them it is and what the marks say of it, and there are no other rows. The table of elements says which elements are in
--- which commit, and which group blocks each property. The marks go with the active commit, and the pending one follows.
-pub record StandsFor (rows : Rows) (table : Anims) (active : Committed) (pending : Option Committed) (marks : List Mark) : Type 0 where
-  pub of_rows : (id : ℕ) → row_at rows id ≡ row_for active.tree.models (models_of pending) marks id
+-- the model of this id, where the tree has it, is done at the tick
+abbrev pub IsOver : TreeLists → List Mark → ℕ → ℕ → Type 0
+IsOver tree marks tick id =
+    (model : Spec) → IsAmong model tree.models → model.id ≡ id → is_over tree tick model (start_of marks id) ≡ true
+
+-- The tables stand for these commits, these marks and this last tick. Each model of either commit has its row, which says
+-- in which of them it is and what the marks say of it, and there are no other rows. A model that its row calls done is
+-- done at the last tick. The table of elements says which elements are in which commit, and which group blocks each
+-- property. The marks go with the active commit, and the pending one follows.
+pub record StandsFor (rows : Rows) (table : Anims) (active : Committed) (pending : Option Committed) (marks : List Mark) (tick : ℕ) : Type 0 where
+  pub of_rows : (id : ℕ) → marked_at rows id ≡ row_for active.tree.models (models_of pending) marks id
+  pub over : (id : ℕ) → says_over (row_at rows id) ≡ true → IsOver active.tree marks tick id
   pub of_elements : PresenceStands table active pending
   pub of_blocks : BlocksStand table marks
   pub finishes : FinishesStarted marks
   pub fits : MarksFit active.tree.models marks
   pub follows : IfSome pending (λ commit. Follows active.tree commit.tree marks)
 
--- the active commit, the pending one or none, and the list of marks
+-- the active commit, the pending one or none, the list of marks, and the time of the last tick
 pub record Stood : Type 0 where
   pub active : Committed
   pub pending : Option Committed
   pub list : Marked
+  pub last_tick : ℕ
 
 -- with new marks behind the others
 abbrev pub with_new : Stood → List Mark → Stood

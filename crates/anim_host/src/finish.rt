@@ -1,82 +1,92 @@
 //! What finishes at a tick.
 
-ghost use Rattle.std.specs.Prelude.{◌≡◌, ℕ, ◌<◌, ◌++◌, ◌∷◌, [], OnOk, true, if◌then◌else◌, filter, length, map, slice_get, Some, IsTrue, IfOk};
+ghost use Rattle.std.specs.Prelude.{◌≡◌, ℕ, ◌<◌, ◌≤◌, ◌++◌, ◌∷◌, [], true, if◌then◌else◌, filter, length, map, slice_get, unsigned_abs, vec_capacity, Some, IsTrue};
 ghost use Rattle.std.specs.List.{AllByRecursion, list_all};
 ghost use Rattle.anim_host.specs.Ticks.{finishes};
 ghost use Rattle.host_tables.specs.Shapes.{at_places, shape_of};
+ghost use Rattle.anim_timeline.specs.declared.TheConstants.{LAST_TIME};
 ghost use Rattle.anim_timeline.specs.Timelines.{IsTime};
+ghost use Rattle.tree_commit.specs.Follows.{IsAmong};
 ghost use Rattle.tree_commit.specs.Marks.{finishing_models, is_over, is_running, is_started, start_of};
 ghost use Rattle.tree_commit.specs.Tables.{HasAllTimelines, has_timeline};
 ghost use Rattle.tree_commit.specs.Trees.{has_model};
 
 use crate::models::is_over;
 use crate::standing::Standing;
-use host_tables::{Shape, runs, shown};
+use host_tables::{Shape, runs};
+use keyframe_effect::RunState;
 use keyframe_model::ModelSpec;
-use std::alloc::{AllocError, Global};
-use tree_commit::Commit;
+use tree_commit::{Commit, Shown};
 
-/// The places of the models that finish at the tick, in the order of the commit: those that run and of whose group each
-/// running model is done.
+/// The places of the models that finish at the tick, which is the last one, in the order of the commit: those that run
+/// and of whose group each running model is done. The list has room for all models, and no further memory is taken.
 pub(crate) fn finishing(
-    alloc: Global,
-    standing: &Standing,
+    standing: &mut Standing,
     active: &Commit,
     shape: &Shape,
     tick: u64,
-) -> Result<Vec<usize>, AllocError>
-    requires active { active.now ≡ standing.now.active }
+    mut places: Vec<usize>,
+) -> Vec<usize>
+    requires active { active.now ≡ standing.old.active }
     requires shape { shape.now ≡ shape_of active.now.tree.models }
+    requires last { standing.old.last_tick ≡ tick }
     requires in_time { IsTime tick }
-    ensures models { IfOk result (λ places.
-        at_places active.now.tree.models places.items ≡ finishing_models active.now.tree standing.now.list.marks tick) }
-    ensures within { IfOk result (λ places. AllByRecursion (λ place. place < length active.now.tree.models) places.items) }
+    requires none { places.items ≡ [] }
+    requires room { length active.now.tree.models ≤ vec_capacity places }
+    ensures models { at_places active.now.tree.models result.items
+        ≡ finishing_models active.now.tree standing.old.list.marks tick }
+    ensures within { AllByRecursion (λ place. place < length active.now.tree.models) result.items }
+    ensures same { standing.new ≡ standing.old }
 {
-    let mut places = Vec::new(alloc);
     for index in 0..active.model_count() {
         let is_finished = finishes(standing, active, shape, active.model_at(index), tick);
-        push_if(&mut places, is_finished, index)?;
+        push_if(&mut places, is_finished, index);
     }
-    Ok(places)
+    places
 }
 
-fn push_if(places: &mut Vec<usize>, test: bool, place: usize) -> Result<(), AllocError>
-    ensures { OnOk result (places.new.items ≡ places.old.items ++ (if test then place ∷ [] else [])) }
+fn push_if(places: &mut Vec<usize>, test: bool, place: usize)
+    requires { length places.old.items < vec_capacity places.old }
+    ensures items { places.new.items ≡ places.old.items ++ (if test then place ∷ [] else []) }
+    ensures room { vec_capacity places.new ≡ vec_capacity places.old }
 {
     if test {
-        places.push(place)?;
+        places.push_reserved(place);
     }
-    Ok(())
 }
 
 // Whether the model finishes at the tick.
 fn finishes(
-    standing: &Standing,
+    standing: &mut Standing,
     active: &Commit,
     shape: &Shape,
     model: &ModelSpec,
     tick: u64,
 ) -> bool
-    requires active { active.now ≡ standing.now.active }
+    requires active { active.now ≡ standing.old.active }
     requires shape { shape.now ≡ shape_of active.now.tree.models }
     requires there { has_model active.now.tree model.now.id ≡ true }
     requires timelines_there { HasAllTimelines active.now.tree }
+    requires last { standing.old.last_tick ≡ tick }
     requires in_time { IsTime tick }
-    ensures { result ≡ finishes active.now.tree standing.now.list.marks tick model.now }
+    ensures finishes { result ≡ finishes active.now.tree standing.old.list.marks tick model.now }
+    ensures same { standing.new ≡ standing.old }
 {
     runs(standing.state(model.id()))
         && are_over(standing, active, shape.places(model.group()), tick)
 }
 
 // Whether each running model at these places is done.
-fn are_over(standing: &Standing, active: &Commit, places: &[usize], tick: u64) -> bool
-    requires active { active.now ≡ standing.now.active }
+fn are_over(standing: &mut Standing, active: &Commit, places: &[usize], tick: u64) -> bool
+    requires active { active.now ≡ standing.old.active }
     requires places { (j place : ℕ) → slice_get places.now j ≡ Some place → place < length active.now.tree.models }
     requires timelines_there { HasAllTimelines active.now.tree }
+    requires last { standing.old.last_tick ≡ tick }
     requires in_time { IsTime tick }
-    ensures { result
-        ≡ list_all (λ model. is_over active.now.tree tick model (start_of standing.now.list.marks model.id))
-        (filter (λ model. is_running standing.now.list.marks model.id) (at_places active.now.tree.models places.now)) }
+    ensures over { result
+        ≡ list_all (λ model. is_over active.now.tree tick model (start_of standing.old.list.marks model.id))
+        (filter (λ model. is_running standing.old.list.marks model.id) (at_places active.now.tree.models places.now)) }
+    ensures same { standing.new ≡ standing.old }
 {
     let mut over = true;
     for index in 0..places.len() {
@@ -85,21 +95,49 @@ fn are_over(standing: &Standing, active: &Commit, places: &[usize], tick: u64) -
     over
 }
 
-// Whether the model is done or does not run.
-fn is_over_or_still(standing: &Standing, active: &Commit, model: &ModelSpec, tick: u64) -> bool
-    requires active { active.now ≡ standing.now.active }
-    requires there { has_model active.now.tree model.now.id ≡ true }
+// Whether the model is done or does not run. One that was found done is not asked again.
+fn is_over_or_still(standing: &mut Standing, active: &Commit, model: &ModelSpec, tick: u64) -> bool
+    requires active { active.now ≡ standing.old.active }
+    requires there { IsAmong model.now active.now.tree.models }
     requires timeline_there { IsTrue (has_timeline active.now.tree model.now.timeline) }
+    requires last { standing.old.last_tick ≡ tick }
     requires in_time { IsTime tick }
-    ensures { result
-        ≡ (if is_running standing.now.list.marks model.now.id
-        then is_over active.now.tree tick model.now (start_of standing.now.list.marks model.now.id)
+    ensures over { result
+        ≡ (if is_running standing.old.list.marks model.now.id
+        then is_over active.now.tree tick model.now (start_of standing.old.list.marks model.now.id)
         else true) }
+    ensures same { standing.new ≡ standing.old }
 {
-    let state = standing.state(model.id());
-    if runs(state) {
-        is_over(active, model, tick, shown(state))
-    } else {
-        true
+    match standing.state(model.id()) {
+        RunState::Running { start, order } => {
+            is_over_now(standing, active, model, tick, Shown { start, order })
+        }
+        RunState::Done { .. } => true,
+        RunState::Waiting | RunState::Finished { .. } | RunState::Aborted => true,
     }
+}
+
+// Whether the model is done, which is marked where it is so.
+fn is_over_now(
+    standing: &mut Standing,
+    active: &Commit,
+    model: &ModelSpec,
+    tick: u64,
+    shown: Shown,
+) -> bool
+    requires active { active.now ≡ standing.old.active }
+    requires there { IsAmong model.now active.now.tree.models }
+    requires timeline_there { IsTrue (has_timeline active.now.tree model.now.timeline) }
+    requires last { standing.old.last_tick ≡ tick }
+    requires in_time { IsTime tick }
+    requires shown { Some shown ≡ start_of standing.old.list.marks model.now.id }
+    requires within { unsigned_abs shown.start ≤ LAST_TIME }
+    ensures over { result ≡ is_over active.now.tree tick model.now (start_of standing.old.list.marks model.now.id) }
+    ensures same { standing.new ≡ standing.old }
+{
+    let over = is_over(active, model, tick, shown);
+    if over {
+        standing.mark_done(model);
+    }
+    over
 }

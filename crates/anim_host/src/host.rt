@@ -1,15 +1,18 @@
-ghost use Rattle.std.specs.Prelude.{◌≡◌, ◌≤◌, [], None, Some, IfOk, OnOk, OnErr, length};
+ghost use Rattle.std.specs.Prelude.{◌≡◌, ◌≤◌, ℕ, [], None, Some, IfOk, OnOk, OnErr, length};
 ghost use Rattle.anim_host.specs.declared.TheConstants.{MOST_HOSTED};
 ghost use Rattle.anim_host.specs.Hosting.{HasRoomFor, after_activation, after_push, after_tick, new_hosting, shown_in};
 ghost use Rattle.host_tables.specs.MarkLists.{StartsAreWithin, events_behind};
 ghost use Rattle.anim_timeline.specs.Timelines.{IsTime};
+ghost use Rattle.host_tables.specs.Blocks.{is_held_by};
+ghost use Rattle.host_tables.specs.Elements.{has_in};
 ghost use Rattle.tree_commit.specs.Follows.{Follows};
+ghost use Rattle.tree_commit.specs.Marks.{blocks};
 ghost use Rattle.tree_commit.specs.Trees.{empty_commit};
 
 use crate::aborts::abort_lost;
 use crate::standing::Standing;
 use crate::ticks::make_tick;
-use anim_names::{AnimEvent, ModelId};
+use anim_names::{AnimEvent, ElementId, GroupId, ModelId, Property, Tree};
 use host_tables::Shape;
 use std::alloc::{AllocError, Global};
 use std::marker::Model;
@@ -25,7 +28,6 @@ pub struct AnimHost {
     standing: Standing,
     shape: Shape,
     next: Option<Shape>,
-    last_tick: u64,
     models: u32,
 }
 
@@ -36,7 +38,6 @@ impl Drop for AnimHost {
             standing: _standing,
             shape: _shape,
             next: _next,
-            last_tick: _,
             models: _,
         } = self;
     }
@@ -53,7 +54,7 @@ impl Model for AnimHost {
       pending = h.standing.pending;
       marks = h.standing.list.marks;
       cleared = h.standing.list.cleared;
-      last_tick = h.last_tick;
+      last_tick = h.standing.last_tick;
       models = h.models;
     } };
 
@@ -72,7 +73,6 @@ impl AnimHost {
             standing: roomy(alloc, models)?,
             shape: Shape::empty(alloc),
             next: None,
-            last_tick: 0,
             models,
         })
     }
@@ -122,16 +122,29 @@ impl AnimHost {
             &self.shape,
             &self.next,
             time,
-        )?;
-        self.last_tick = time;
-        Ok(())
+        )
     }
 
     /// The time of the last tick, in microseconds; 0 before any.
     pub fn last_tick(&self) -> u64
         ensures { result ≡ self.now.last_tick }
     {
-        self.last_tick
+        self.standing.last_tick()
+    }
+
+    /// Whether the commit in this tree, the active or the pending one, has the element.
+    pub fn present(&self, tree: Tree, element: ElementId) -> bool
+        ensures { result ≡ has_in tree self.now.active self.now.pending element }
+    {
+        self.standing.present(tree, element)
+    }
+
+    /// The group that blocks the property of the element, if one does: a model of it runs, and one of its models that
+    /// started is of that property of that element.
+    pub fn blocked_by(&self, element: ElementId, property: Property) -> Option<GroupId>
+        ensures { (group : ℕ) → is_held_by group result ≡ blocks self.now.marks group element property }
+    {
+        self.standing.blocked_by(element, property)
     }
 
     /// The events of the marks since the news were cleared, in order.
@@ -165,7 +178,7 @@ impl StartTable for AnimHost {
 fn roomy(alloc: Global, models: u32) -> Result<Standing, AllocError>
     requires { models ≤ MOST_HOSTED }
     ensures stood { IfOk result (λ stood. (stood.active ≡ empty_commit)
-        × (stood.pending ≡ None) × (stood.list.marks ≡ []) × (stood.list.cleared ≡ 0)) }
+        × (stood.pending ≡ None) × (stood.list.marks ≡ []) × (stood.list.cleared ≡ 0) × (stood.last_tick ≡ 0)) }
 {
     let mut standing = Standing::new(alloc)?;
     standing.reserve(2 * models as usize)?;

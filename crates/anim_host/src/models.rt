@@ -1,6 +1,6 @@
 //! What is asked of one keyframe model, by a commit and the marks.
 
-ghost use Rattle.std.specs.Prelude.{◌≡◌, ◌≤◌, ◌-ℤ◌, unsigned_abs, IsTrue, IfSome};
+ghost use Rattle.std.specs.Prelude.{◌≡◌, ◌≤◌, ◌-ℤ◌, unsigned_abs, Some, IsTrue, IfSome};
 ghost use Rattle.anim_timeline.specs.declared.TheConstants.{LAST_TIME};
 ghost use Rattle.anim_timeline.specs.Timelines.{IsTime};
 ghost use Rattle.micro_time.specs.Timings.{is_done};
@@ -12,16 +12,13 @@ use keyframe_model::ModelSpec;
 use tree_commit::{Commit, Shown};
 
 /// Whether the model is done at the tick, by the start that was recorded for it.
-pub(crate) fn is_over(active: &Commit, model: &ModelSpec, tick: u64, shown: Option<Shown>) -> bool
+pub(crate) fn is_over(active: &Commit, model: &ModelSpec, tick: u64, shown: Shown) -> bool
     requires timeline_there { IsTrue (has_timeline active.now.tree model.now.timeline) }
     requires in_time { IsTime tick }
-    requires within { IfSome shown (λ s. unsigned_abs s.start ≤ LAST_TIME) }
-    ensures { result ≡ is_over active.now.tree tick model.now shown }
+    requires within { unsigned_abs shown.start ≤ LAST_TIME }
+    ensures { result ≡ is_over active.now.tree tick model.now (Some shown) }
 {
-    match shown {
-        None => false,
-        Some(shown) => is_done_since(model, time_of(active, model, tick), shown.start),
-    }
+    is_done_since(model, time_of(active, model, tick), shown.start)
 }
 
 // Whether the model is done at a time of its timeline that is so long after its start.

@@ -3,13 +3,14 @@ ghost use Rattle.std.specs.List.{list_any};
 ghost use Rattle.anim_timeline.specs.declared.TheConstants.{LAST_TIME};
 ghost use Rattle.host_tables.specs.MarkLists.{StartIsWithin};
 ghost use Rattle.anim_host.specs.Fits.{IsOf, IsThereIfRunning, MarksFit};
-ghost use Rattle.host_tables.specs.Blocks.{IsReleased};
+ghost use Rattle.host_tables.specs.Blocks.{IsReleased, is_held_by};
+ghost use Rattle.host_tables.specs.Elements.{has_in};
 ghost use Rattle.anim_names.specs.declared.lane.Tree as lane;
 ghost use Rattle.element_anims.specs.Elements.{is_present};
 ghost use Rattle.tree_commit.specs.declared.runs.mark.Mark.TheVariants.{Started};
-ghost use Rattle.host_tables.specs.Rows.{row_at};
-ghost use Rattle.anim_host.specs.Standing.{Stood, with_new};
-ghost use Rattle.host_tables.specs.States.{FinishesStarted, is_among, row_for, shown_at, state_of};
+ghost use Rattle.host_tables.specs.Rows.{marked_at, row_at, says_over};
+ghost use Rattle.anim_host.specs.Standing.{IsOver, Stood, with_new};
+ghost use Rattle.host_tables.specs.States.{FinishesStarted, as_marked, is_among, is_found_over, row_for, shown_at, state_of};
 ghost use Rattle.keyframe_effect.specs.declared.state.RunState.TheVariants.{Waiting};
 ghost use Rattle.keyframe_effect.specs.States as state;
 ghost use Rattle.keyframe_effect.specs.States.{is_unfinished};
@@ -17,10 +18,10 @@ ghost use Rattle.keyframe_model.specs.Models.{Spec, property_of};
 ghost use Rattle.tree_commit.specs.declared.runs.mark.Mark as declared;
 ghost use Rattle.tree_commit.specs.Follows.{Follows, IsAmong};
 ghost use Rattle.tree_commit.specs.Frames.{shown_by};
-ghost use Rattle.tree_commit.specs.Marks.{aborts, blocks, ends, is_blocked_for, is_ended, is_group_running, is_running, is_started, model_of, starts_in};
+ghost use Rattle.tree_commit.specs.Marks.{aborts, blocks, ends, is_blocked_for, is_ended, is_group_running, is_over, is_running, is_started, model_of, start_of, starts_in};
 ghost use Rattle.tree_commit.specs.Trees.{empty_commit, has_element, has_model};
 
-use anim_names::{ElementId, GroupId, ModelId, Property};
+use anim_names::{ElementId, GroupId, ModelId, Property, Tree};
 use element_anims::ElementAnims;
 use host_tables::elements::{self, announce, hold, release, swap};
 use host_tables::{MarkList, RowTable, shown};
@@ -31,17 +32,19 @@ use std::marker::Model;
 use std::sync::Arc;
 use tree_commit::{Commit, Mark, Shown};
 
-/// The active and the pending commit, all marks, and the table that says of each model of these commits how far it has
-/// come.
+/// The active and the pending commit, all marks, the time of the last tick, and the table that says of each model of
+/// these commits how far it has come.
 ///
 /// It does not know which marks come when. That the table stands for the commits and the marks is its invariant: it
-/// holds after every single mark. A contract sees the commits and the list of marks.
+/// holds after every single mark. A contract sees the commits, the list of marks and the last tick; it does not see
+/// which models were found done.
 pub(crate) struct Standing {
     active: Arc<Commit>,
     pending: Option<Arc<Commit>>,
     marks: MarkList,
     rows: RowTable,
     elements: ElementAnims,
+    last_tick: u64,
 }
 
 impl Drop for Standing {
@@ -52,6 +55,7 @@ impl Drop for Standing {
             marks: _marks,
             rows: _rows,
             elements: _elements,
+            last_tick: _,
         } = self;
     }
 }
@@ -66,17 +70,18 @@ impl Model for Standing {
       active = s.active.value;
       pending = option_map (λ commit. commit.value) s.pending;
       list = s.marks;
+      last_tick = s.last_tick;
     } };
 
     ghost invariant = { λ s.
-        StandsFor s.rows s.elements s.active.value (option_map (λ commit. commit.value) s.pending) s.marks.marks };
+        StandsFor s.rows s.elements s.active.value (option_map (λ commit. commit.value) s.pending) s.marks.marks s.last_tick };
 }
 
 impl Standing {
-    /// Commit 0 is active, and there is no mark.
+    /// Commit 0 is active, and there was no mark and no tick.
     pub(crate) fn new(alloc: Global) -> Result<Standing, AllocError>
-        ensures { IfOk result (λ stood.
-            stood ≡ record { active = empty_commit; pending = None; list = record { marks = []; cleared = 0; room = 0 } }) }
+        ensures { IfOk result (λ stood. stood
+            ≡ record { active = empty_commit; pending = None; list = record { marks = []; cleared = 0; room = 0 }; last_tick = 0 }) }
     {
         Ok(Standing {
             active: Commit::empty(alloc)?,
@@ -84,6 +89,7 @@ impl Standing {
             marks: MarkList::new(alloc),
             rows: RowTable::new(alloc),
             elements: ElementAnims::new(alloc)?,
+            last_tick: 0,
         })
     }
 
@@ -101,6 +107,13 @@ impl Standing {
         &self.marks
     }
 
+    /// The time of the last tick, in microseconds; 0 before any.
+    pub(crate) fn last_tick(&self) -> u64
+        ensures { result ≡ self.now.last_tick }
+    {
+        self.last_tick
+    }
+
     /// How far a model of the active commit has come.
     pub(crate) fn state(&self, id: ModelId) -> RunState
         requires { has_model self.now.active.tree id ≡ true }
@@ -108,16 +121,20 @@ impl Standing {
         ensures ended { state.is_ended result ≡ is_ended self.now.list.marks id }
         ensures shown { shown_at result ≡ shown_by self.now.list.marks id }
         ensures within { IfSome (shown_at result) (λ s. unsigned_abs s.start ≤ LAST_TIME) }
+        ensures over { is_found_over result ≡ true
+            → IsOver self.now.active.tree self.now.list.marks self.now.last_tick id }
     {
         let _ = self.marks.marks();
         self.state_now(id)
     }
 
-    // What the marks say of a model of the active commit.
+    // What the marks say of a model of the active commit, and whether it was found done.
     fn state_now(&self, id: ModelId) -> RunState
         requires { has_model self.now.active.tree id ≡ true }
-        ensures state { result ≡ state_of self.now.list.marks id }
+        ensures state { as_marked result ≡ state_of self.now.list.marks id }
         ensures finishes { FinishesStarted self.now.list.marks }
+        ensures over { is_found_over result ≡ true
+            → IsOver self.now.active.tree self.now.list.marks self.now.last_tick id }
     {
         match self.rows.row(id) {
             Some(row) => row.state,
@@ -133,6 +150,20 @@ impl Standing {
             Some(row) if row.in_active => shown(row.state),
             _ => None,
         }
+    }
+
+    /// Whether the commit in this tree has the element.
+    pub(crate) fn present(&self, tree: Tree, element: ElementId) -> bool
+        ensures { result ≡ has_in tree self.now.active self.now.pending element }
+    {
+        self.elements.present(tree, element)
+    }
+
+    /// The group that blocks the property of the element, if one does.
+    pub(crate) fn blocked_by(&self, element: ElementId, property: Property) -> Option<GroupId>
+        ensures { (group : ℕ) → is_held_by group result ≡ blocks self.now.list.marks group element property }
+    {
+        self.elements.blocked_by(element, property)
     }
 
     /// Whether some other group blocks the property of the element.
@@ -166,6 +197,24 @@ impl Standing {
         ensures err { OnErr result (self.new ≡ self.old) }
     {
         self.marks.reserve(count)
+    }
+
+    /// The tick of this time is the last one.
+    pub(crate) fn set_last_tick(&mut self, time: u64)
+        requires { self.old.last_tick ≤ time }
+        ensures { self.new ≡ record self.old { last_tick = time } }
+    {
+        self.last_tick = time;
+    }
+
+    /// A running model of the active commit was found done. It is not asked again, since it stays so.
+    pub(crate) fn mark_done(&mut self, model: &ModelSpec)
+        requires there { IsAmong model.now self.old.active.tree.models }
+        requires over { is_over self.old.active.tree self.old.last_tick model.now (start_of self.old.list.marks model.now.id) ≡ true }
+        ensures { self.new ≡ self.old }
+    {
+        let _ = self.active.model_count();
+        self.rows.mark_done(model.id());
     }
 
     /// A model of the active commit starts: its mark goes behind the others, and from then on its group blocks its
@@ -249,6 +298,7 @@ impl Standing {
             → IsThereIfRunning commit.now.tree.models self.old.list.marks mark }
         ensures { self.new ≡ record self.old { active = commit.now; pending = None } }
     {
+        let _ = self.active.model_count();
         if let Some(pending) = self.pending.take() {
             leave_active(&mut self.rows, &self.active);
             enter_active(&mut self.rows, &pending);
@@ -286,10 +336,11 @@ fn release_if(test: bool, elements: &mut ElementAnims, element: ElementId, group
 // Each model of the commit is in the pending one from now on.
 fn join_pending(rows: &mut RowTable, commit: &Commit)
     requires room { length commit.now.tree.models ≤ rows.old.room }
-    ensures { (active : List Spec) (marks : List declared.Mark)
+    ensures rows { (active : List Spec) (marks : List declared.Mark)
         → ((model : Spec) → IsAmong model commit.now.tree.models → is_among active model.id ≡ false → state_of marks model.id ≡ Waiting)
-        → ((id : ℕ) → row_at rows.old id ≡ row_for active [] marks id)
-        → (id : ℕ) → row_at rows.new id ≡ row_for active commit.now.tree.models marks id }
+        → ((id : ℕ) → marked_at rows.old id ≡ row_for active [] marks id)
+        → (id : ℕ) → marked_at rows.new id ≡ row_for active commit.now.tree.models marks id }
+    ensures over { (id : ℕ) → says_over (row_at rows.new id) ≡ true → says_over (row_at rows.old id) ≡ true }
 {
     for index in 0..commit.model_count() {
         rows.join_pending(commit.model_at(index).id());
@@ -298,9 +349,10 @@ fn join_pending(rows: &mut RowTable, commit: &Commit)
 
 // No model of the commit is in the active one from now on.
 fn leave_active(rows: &mut RowTable, commit: &Commit)
-    ensures { (pending : List Spec) (marks : List declared.Mark)
-        → ((id : ℕ) → row_at rows.old id ≡ row_for commit.now.tree.models pending marks id)
-        → (id : ℕ) → row_at rows.new id ≡ row_for [] pending marks id }
+    ensures rows { (pending : List Spec) (marks : List declared.Mark)
+        → ((id : ℕ) → marked_at rows.old id ≡ row_for commit.now.tree.models pending marks id)
+        → (id : ℕ) → marked_at rows.new id ≡ row_for [] pending marks id }
+    ensures over { (id : ℕ) → says_over (row_at rows.new id) ≡ true → says_over (row_at rows.old id) ≡ true }
 {
     for index in 0..commit.model_count() {
         rows.leave_active(commit.model_at(index).id());
@@ -309,9 +361,10 @@ fn leave_active(rows: &mut RowTable, commit: &Commit)
 
 // Each model of the commit is in the active one from now on, and not in the pending one.
 fn enter_active(rows: &mut RowTable, commit: &Commit)
-    ensures { (marks : List declared.Mark)
-        → ((id : ℕ) → row_at rows.old id ≡ row_for [] commit.now.tree.models marks id)
-        → (id : ℕ) → row_at rows.new id ≡ row_for commit.now.tree.models [] marks id }
+    ensures rows { (marks : List declared.Mark)
+        → ((id : ℕ) → marked_at rows.old id ≡ row_for [] commit.now.tree.models marks id)
+        → (id : ℕ) → marked_at rows.new id ≡ row_for commit.now.tree.models [] marks id }
+    ensures over { (id : ℕ) → says_over (row_at rows.new id) ≡ true → says_over (row_at rows.old id) ≡ true }
 {
     for index in 0..commit.model_count() {
         rows.enter_active(commit.model_at(index).id());

@@ -22,8 +22,8 @@ use keyframe_model::ModelSpec;
 use std::alloc::{AllocError, Global};
 use tree_commit::{Commit, Mark};
 
-/// Appends the new marks of the tick. All memory is taken before the first of them, with room left for a mark for each
-/// model of the commit.
+/// Appends the new marks of the tick, which is the last one from then on. All memory is taken before, with room left for
+/// a mark for each model of the commit.
 pub(crate) fn make_tick(
     alloc: Global,
     standing: &mut Standing,
@@ -36,18 +36,22 @@ pub(crate) fn make_tick(
     requires shape { shape.now ≡ shape_of active.now.tree.models }
     requires next { next.now ≡ option_map (λ commit. shape_of commit.tree.models) standing.old.pending }
     requires settled { AreSettled active.now.tree.models standing.old.list.marks }
+    requires later { standing.old.last_tick ≤ tick }
     requires in_time { IsTime tick }
     ensures settled { OnOk result (AreSettled active.now.tree.models standing.new.list.marks) }
     ensures marks { OnOk result (standing.new.list.marks
         ≡ standing.old.list.marks ++ marks_of_tick active.now.tree standing.old.pending standing.old.list.marks tick) }
     ensures same { OnOk result ((standing.new.active ≡ standing.old.active)
         × (standing.new.pending ≡ standing.old.pending)
-        × (standing.new.list.cleared ≡ standing.old.list.cleared)) }
+        × (standing.new.list.cleared ≡ standing.old.list.cleared)
+        × (standing.new.last_tick ≡ tick)) }
     ensures left { OnOk result (length standing.new.list.marks + length active.now.tree.models ≤ standing.new.list.room) }
     ensures err { OnErr result (standing.new ≡ standing.old) }
 {
-    let places = finishing(alloc, standing, active, shape, tick)?;
+    let places = Vec::with_capacity(alloc, active.model_count())?;
     standing.reserve(tick_room(active, shape)?)?;
+    standing.set_last_tick(tick);
+    let places = finishing(standing, active, shape, tick, places);
     make_marks(standing, active, shape, next, &places, tick);
     Ok(())
 }

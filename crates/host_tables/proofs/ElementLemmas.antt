@@ -11,7 +11,7 @@ use Rattle.element_anims.specs.Elements.{Anims, IsSetPresent, blocker_of, is_pre
 use Rattle.tree_commit.specs.declared.runs.mark.Mark.{Mark}
 use Rattle.tree_commit.specs.Trees.{Committed, Element, has_element}
 use Rattle.host_tables.specs.Blocks.{BlocksStand, is_held_by}
-use Rattle.host_tables.specs.Elements.{AreSet, PresenceStands, is_listed}
+use Rattle.host_tables.specs.Elements.{AreSet, PresenceStands, has_in, is_listed}
 use Rattle.host_tables.proofs.StateLemmas.{or_none}
 
 pub apart-test : (a b : ℕ) → a ≢ b → (a == b) ≡ false
@@ -66,6 +66,12 @@ set-next tree elements i element there old now new found set so_far = record {
       (sym (ap (λ (k : ℕ). is_listed (take k elements) e) (add-one i) ∙ listed-taken elements i element e found));
   blocks = λ e p. set.blocks e p ∙ so_far.blocks e p;
 }
+
+-- what the table says of one tree
+pub presence-in : (table : Anims) (active : Committed) (pending : Option Committed) (t : Tree) (e : ℕ)
+    → PresenceStands table active pending → is_present table t e ≡ has_in t active pending e
+presence-in table active pending Active e stand = stand.of_active e
+presence-in table active pending Pending e stand = stand.of_pending e
 
 -- the same elements are in the same trees
 pub presence-same : (old new : Anims) (active : Committed) (pending : Option Committed)

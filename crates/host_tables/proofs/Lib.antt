@@ -6,3 +6,4 @@ pub mod StateLemmas
 pub mod AmongLemmas
 pub mod ShapeLemmas
 pub mod ElementLemmas
+pub mod MarkedLemmas

@@ -80,6 +80,12 @@ start-more index (first ∷ marks) mark id = here (start-more (index + 1) marks 
         start-found index id first (marks ++ mark ∷ []) start is
         ∙ ap (λ (s : Option Shown). or_start s (start_in id mark) (index + length (first ∷ marks))) (sym (start-found index id first marks start is))
 
+-- a recorded start stays as marks come
+pub start-kept : (marks : List Mark) (mark : Mark) (id : ℕ) (shown : Shown) → start_of marks id ≡ Some shown
+    → start_of (marks ++ mark ∷ []) id ≡ Some shown
+start-kept marks mark id shown is =
+    start-more 0 marks mark id ∙ ap (λ (s : Option Shown). or_start s (start_in id mark) (0 + length marks)) is
+
 -- ---- the state with one more mark
 
 started-some : (index : ℕ) (marks : List Mark) (id : ℕ) → is_some (start_from index marks id) ≡ is_started marks id

@@ -16,6 +16,11 @@ abbrev pub pending_has : Option Committed → ℕ → Bool
 pending_has None id = false
 pending_has (Some commit) id = has_element commit.tree id
 
+-- the commit in this tree has the element
+abbrev pub has_in : Tree → Committed → Option Committed → ℕ → Bool
+has_in Active active pending id = has_element active.tree id
+has_in Pending active pending id = pending_has pending id
+
 -- The table says of these elements whether this tree has them; all else is as it was.
 pub record AreSet (tree : Tree) (elements : List Element) (there : Bool) (old new : Anims) : Type 0 where
   pub presence : (t : Tree) (e : ℕ) → is_present new t e ≡ (if is_tree tree t && is_listed elements e then there else is_present old t e)

@@ -1,9 +1,10 @@
 -- The rows that the host keeps of models.
-use Rattle.std.specs.Prelude.{◌≡◌, ℕ, nat_eq, List, Option, Some, None, option_and_then, option_map, slice_index_or, count_by, is_some, true, false, if◌then◌else◌}
+use Rattle.std.specs.Prelude.{◌≡◌, ℕ, Bool, nat_eq, List, Option, Some, None, option_and_then, option_map, slice_index_or, count_by, is_some, true, false, if◌then◌else◌}
 use Rattle.std.specs.Map.{lookup}
 use Rattle.host_tables.specs.declared.row.ModelRow.{ModelRow}
 use Rattle.keyframe_effect.specs.declared.state.RunState.TheVariants as state
-use Rattle.host_tables.specs.States.{advanced}
+use Rattle.keyframe_effect.specs.States.{after_done}
+use Rattle.host_tables.specs.States.{advanced, as_marked, is_found_over}
 use Rattle.tree_commit.specs.declared.runs.mark.Mark.{Mark}
 
 -- A slab of rows; under the id of each model the place of its row; and for how many more rows there is room.
@@ -28,6 +29,25 @@ row_count rows = count_by is_some rows.slots
 abbrev pub PlacesLead : List (Option ModelRow) → List (ℕ × ℕ) → Type 0
 PlacesLead slots places =
     (id place : ℕ) → lookup (nat_eq id) places ≡ Some place → option_map (λ row. row.model) (slot_at slots place) ≡ Some id
+
+-- ---- what no mark says
+
+-- the row as the marks know it
+abbrev pub marked_row : ModelRow → ModelRow
+marked_row row = record row { state = as_marked row.state }
+
+-- the row of a model, as the marks know it
+abbrev pub marked_at : Rows → ℕ → Option ModelRow
+marked_at rows id = option_map marked_row (row_at rows id)
+
+-- there is a row, and the iterations of its model were found over
+abbrev pub says_over : Option ModelRow → Bool
+says_over None = false
+says_over (Some row) = is_found_over row.state
+
+-- the row of a model whose iterations are found over
+abbrev pub done_row : ModelRow → ModelRow
+done_row row = record row { state = after_done row.state }
 
 -- ---- what becomes of a row as the commits change
 

@@ -60,6 +60,24 @@ shown_at (state.Done start order) = Some (record { start = start; order = order 
 shown_at (state.Finished start order) = Some (record { start = start; order = order })
 shown_at state.Aborted = None
 
+-- ---- what no mark says
+
+-- what the marks say of a model in this state: no mark says that its iterations are over
+abbrev pub as_marked : RunState → RunState
+as_marked state.Waiting = state.Waiting
+as_marked (state.Running start order) = state.Running start order
+as_marked (state.Done start order) = state.Running start order
+as_marked (state.Finished start order) = state.Finished start order
+as_marked state.Aborted = state.Aborted
+
+-- its iterations were found over, and it waits for its group
+abbrev pub is_found_over : RunState → Bool
+is_found_over state.Waiting = false
+is_found_over (state.Running start order) = false
+is_found_over (state.Done start order) = true
+is_found_over (state.Finished start order) = false
+is_found_over state.Aborted = false
+
 -- ---- rows
 
 -- one of the models has this id

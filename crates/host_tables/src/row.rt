@@ -1,6 +1,6 @@
 ghost use Rattle.std.specs.Prelude.{◌≡◌};
 ghost use Rattle.host_tables.specs.States.{advanced, shown_at, started};
-ghost use Rattle.keyframe_effect.specs.States.{after_finish, is_ended, is_unfinished};
+ghost use Rattle.keyframe_effect.specs.States.{after_done, after_finish, is_ended, is_unfinished};
 
 use anim_names::ModelId;
 use keyframe_effect::RunState;
@@ -74,6 +74,16 @@ fn started(state: RunState, start: i64, order: u32) -> RunState
 {
     match state {
         RunState::Waiting => RunState::Running { start, order },
+        other => other,
+    }
+}
+
+/// The iterations of a running model are found over.
+pub(crate) fn done(state: RunState) -> RunState
+    ensures { result ≡ after_done state }
+{
+    match state {
+        RunState::Running { start, order } => RunState::Done { start, order },
         other => other,
     }
 }

@@ -1,9 +1,9 @@
 ghost use Rattle.std.specs.Prelude.{◌≡◌, ◌≢◌, ℕ, ◌+◌, ◌≤◌, ◌<◌, Some, None, IfOk, OnOk, OnErr, nat_eq, is_some, true, IfSome, option_map, option_and_then};
-ghost use Rattle.host_tables.specs.Rows.{advanced_row, entered, joined, left, row_at, row_count};
+ghost use Rattle.host_tables.specs.Rows.{advanced_row, done_row, entered, joined, left, row_at, row_count};
 ghost use Rattle.tree_commit.specs.Marks.{model_of};
 
 use crate::mark_list::model_of;
-use crate::row::{ModelRow, advanced};
+use crate::row::{ModelRow, advanced, done};
 use anim_names::ModelId;
 use keyframe_effect::RunState;
 use slab::Slab;
@@ -144,6 +144,19 @@ impl RowTable {
         if let Some(row) = self.row(model_of(mark)) {
             self.set(ModelRow {
                 state: advanced(row.state, mark, order),
+                ..row
+            });
+        }
+    }
+
+    /// The iterations of a running model are found over.
+    pub fn mark_done(&mut self, id: ModelId)
+        ensures here { row_at self.new id ≡ option_map done_row (row_at self.old id) }
+        ensures others { (other : ℕ) → other ≢ id → row_at self.new other ≡ row_at self.old other }
+    {
+        if let Some(row) = self.row(id) {
+            self.set(ModelRow {
+                state: done(row.state),
                 ..row
             });
         }

@@ -7,8 +7,9 @@ use Rattle.anim_host.proofs.finish.are_over.Given as goal
 
 abbrev pub invariant-loop-index : goal.invariant-loop-index
 invariant-loop-index l =
-    (l.over
-    && list_all (λ model. is_over l.active.tree l.tick model (start_of l.standing.list.marks model.id))
-    (filter (λ model. is_running l.standing.list.marks model.id) (at_places l.active.tree.models (drop l.index l.places))))
-    ≡ list_all (λ model. is_over l.active.tree l.tick model (start_of l.standing.list.marks model.id))
-    (filter (λ model. is_running l.standing.list.marks model.id) (at_places l.active.tree.models l.places))
+    (l.standing ≡ l.fn.standing)
+    × ((l.over
+    && list_all (λ model. is_over l.active.tree l.tick model (start_of l.fn.standing.list.marks model.id))
+    (filter (λ model. is_running l.fn.standing.list.marks model.id) (at_places l.active.tree.models (drop l.index l.places))))
+    ≡ list_all (λ model. is_over l.active.tree l.tick model (start_of l.fn.standing.list.marks model.id))
+    (filter (λ model. is_running l.fn.standing.list.marks model.id) (at_places l.active.tree.models l.places)))

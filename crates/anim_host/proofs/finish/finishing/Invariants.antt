@@ -1,4 +1,4 @@
-use Rattle.std.proofs.Common.{◌≡◌, ◌<◌, ◌++◌, drop, filter, length}
+use Rattle.std.proofs.Common.{◌≡◌, ◌<◌, ◌≤◌, ◌++◌, drop, filter, length, vec_capacity}
 use Rattle.std.specs.List.{AllByRecursion}
 use Rattle.tree_commit.specs.Marks.{finishing_models}
 use Rattle.anim_host.specs.Ticks.{finishes}
@@ -7,7 +7,10 @@ use Rattle.anim_host.proofs.finish.finishing.Given as goal
 
 abbrev pub invariant-loop-index : goal.invariant-loop-index
 invariant-loop-index l =
-    (at_places l.active.tree.models l.places.items
-    ++ filter (finishes l.active.tree l.standing.list.marks l.tick) (drop l.index l.active.tree.models)
-    ≡ finishing_models l.active.tree l.standing.list.marks l.tick)
+    (l.standing ≡ l.fn.standing)
+    × (at_places l.active.tree.models l.places.items
+    ++ filter (finishes l.active.tree l.fn.standing.list.marks l.tick) (drop l.index l.active.tree.models)
+    ≡ finishing_models l.active.tree l.fn.standing.list.marks l.tick)
     × AllByRecursion (λ place. place < length l.active.tree.models) l.places.items
+    × (length l.places.items ≤ l.index)
+    × (length l.active.tree.models ≤ vec_capacity l.places)

@@ -1,5 +1,5 @@
-use Rattle.std.proofs.Common.{◌≡◌, ℕ, List, drop}
-use Rattle.host_tables.specs.Rows.{row_at}
+use Rattle.std.proofs.Common.{◌≡◌, ℕ, true, List, drop}
+use Rattle.host_tables.specs.Rows.{marked_at, row_at, says_over}
 use Rattle.host_tables.specs.States.{row_for}
 use Rattle.keyframe_model.specs.Models.{Spec}
 use Rattle.tree_commit.specs.declared.runs.mark.Mark.{Mark}
@@ -7,6 +7,7 @@ use Rattle.anim_host.proofs.standing.leave_active.Given as goal
 
 abbrev pub invariant-loop-index : goal.invariant-loop-index
 invariant-loop-index l =
-    (pending : List Spec) (marks : List Mark)
-    → ((id : ℕ) → row_at l.fn.rows id ≡ row_for l.commit.tree.models pending marks id)
-    → (id : ℕ) → row_at l.rows id ≡ row_for (drop l.index l.commit.tree.models) pending marks id
+    ((pending : List Spec) (marks : List Mark)
+    → ((id : ℕ) → marked_at l.fn.rows id ≡ row_for l.commit.tree.models pending marks id)
+    → (id : ℕ) → marked_at l.rows id ≡ row_for (drop l.index l.commit.tree.models) pending marks id)
+    × ((id : ℕ) → says_over (row_at l.rows id) ≡ true → says_over (row_at l.fn.rows id) ≡ true)

@@ -27,6 +27,7 @@ loop-index-preserved c =
       starting-next tree old.pending c.args.tick groups index old.list now.list new.list group found is c.loop-index.invariant.0,
       ap (λ (s : Stood). s.active) c.start_group.ensures.marks ∙ c.loop-index.invariant.1,
       ap (λ (s : Stood). s.pending) c.start_group.ensures.marks ∙ c.loop-index.invariant.2,
+      ap (λ (s : Stood). s.last_tick) c.start_group.ensures.marks ∙ c.loop-index.invariant.3,
       c.start_group.ensures.settled,
     )
 
@@ -41,3 +42,4 @@ returns-clause-marks c =
     let past : length groups ≤ c.loop-index.index = omega arith in
     stood-same old c.loop-index.standing _ c.loop-index.invariant.1 c.loop-index.invariant.2
     (starting-last tree old.pending c.args.tick groups c.loop-index.index old.list c.loop-index.standing.list past c.loop-index.invariant.0)
+    c.loop-index.invariant.3

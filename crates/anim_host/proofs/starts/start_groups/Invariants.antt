@@ -9,4 +9,5 @@ invariant-loop-index l =
     Starting l.active.tree l.fn.standing.pending l.tick (groups_of l.active.tree) l.index l.fn.standing.list l.standing.list
     × (l.standing.active ≡ l.fn.standing.active)
     × (l.standing.pending ≡ l.fn.standing.pending)
+    × (l.standing.last_tick ≡ l.fn.standing.last_tick)
     × AreSettled l.active.tree.models l.standing.list.marks

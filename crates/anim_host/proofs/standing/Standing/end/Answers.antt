@@ -1,12 +1,14 @@
-use Rattle.std.proofs.Common.{◌≡◌, ◌∷◌, [], ◌++◌, Bool, true, false, not, ap, refl, ◌∙◌}
+use Rattle.std.proofs.Common.{◌≡◌, ◌∷◌, [], ◌++◌, length, Bool, true, false, not, ap, refl, ◌∙◌}
 use Rattle.std.specs.Prelude.{option_map}
-use Rattle.tree_commit.specs.Marks.{is_group_running}
+use Rattle.tree_commit.specs.Marks.{is_group_running, model_of}
 use Rattle.host_tables.specs.MarkLists.{Marked}
-use Rattle.host_tables.specs.Rows.{row_at}
+use Rattle.host_tables.specs.Rows.{advanced_row, marked_at, marked_row, row_at}
 use Rattle.host_tables.specs.States.{models_of}
 use Rattle.anim_host.proofs.BlockLemmas.{end-frees, end-keeps}
 use Rattle.host_tables.proofs.ElementLemmas.{presence-same}
 use Rattle.anim_host.proofs.FitLemmas.{fits-next, follows-more}
+use Rattle.host_tables.proofs.MarkedLemmas.{row-marked-advanced}
+use Rattle.anim_host.proofs.OverLemmas.{over-next}
 use Rattle.anim_host.proofs.StandLemmas.{advanced-next}
 use Rattle.host_tables.proofs.StateLemmas.{finishes-started}
 use Rattle.anim_host.proofs.standing.Standing.end.Goals as goal
@@ -25,14 +27,21 @@ invariant_of-self c =
     let before = c.self.invariant in
     let more : c.push.new.self.marks ≡ marks ++ mark ∷ [] = ap (λ (m : Marked). m.marks) c.push.ensures in
     let order = c.next_order-order.ensures in
+    let here : row_at c.advance.new.self (model_of mark) ≡ option_map (advanced_row mark (length marks)) (row_at c.self.inside.rows (model_of mark)) =
+    rw order at c.advance.ensures.here in
     let there = rw (← c.self.view_is) at c.requires.there in
     let last : is_group_running (marks ++ mark ∷ []) model.group ≡ not c.args.is_last = rw (← c.self.view_is) at c.requires.last in
     let began = rw (← c.self.view_is) at c.requires.started in
     let differ = rw c.deref.ensures at c.model_count.ensures.differ in
     rw more (record {
       of_rows =
-          advanced-next (row_at c.self.inside.rows) (row_at c.advance.new.self) active.tree.models (models_of pending) marks mark
-          before.of_rows before.finishes (rw order at c.advance.ensures.here) c.advance.ensures.others;
+          advanced-next (marked_at c.self.inside.rows) (marked_at c.advance.new.self) active.tree.models (models_of pending) marks mark
+          before.of_rows before.finishes
+          (ap (option_map marked_row) here ∙ row-marked-advanced (row_at c.self.inside.rows (model_of mark)) mark (length marks))
+          (λ id differ. ap (option_map marked_row) (c.advance.ensures.others id differ));
+      over =
+          over-next (row_at c.self.inside.rows) (row_at c.advance.new.self) active.tree marks mark (length marks) c.self.inside.last_tick
+          here c.advance.ensures.others before.over;
       of_elements = presence-same c.self.inside.elements c.release_if.new.elements active pending c.release_if.ensures.presence before.of_elements;
       of_blocks =
           by-test c.args.is_last

@@ -5,6 +5,7 @@ use Rattle.tree_commit.specs.Follows.{Follows}
 use Rattle.keyframe_model.specs.Models.{Spec}
 use Rattle.host_tables.specs.Elements.{PresenceStands}
 use Rattle.host_tables.specs.MarkLists.{Marked}
+use Rattle.host_tables.specs.Rows.{marked_row, says_over}
 use Rattle.host_tables.specs.States.{models_of, row_for}
 use Rattle.host_tables.proofs.ElementLemmas.{blocks-same, presence-announced, presence-same}
 use Rattle.host_tables.proofs.StateLemmas.{follows-waits}
@@ -15,7 +16,8 @@ invariant_of-self-in_err-reserve-2 c =
     let active = c.self.inside.active.value in
     let pending = option_map (λ commit. commit.value) c.self.inside.pending in
     record {
-      of_rows = λ id. c.reserve.ensures.rows id ∙ c.self.invariant.of_rows id;
+      of_rows = λ id. ap (option_map marked_row) (c.reserve.ensures.rows id) ∙ c.self.invariant.of_rows id;
+      over = λ id says. c.self.invariant.over id (sym (ap says_over (c.reserve.ensures.rows id)) ∙ says);
       of_elements = presence-same c.self.inside.elements c.reserve-2.new.table active pending c.reserve-2.ensures.same.presence c.self.invariant.of_elements;
       of_blocks = blocks-same c.self.inside.elements c.reserve-2.new.table c.self.inside.marks.marks c.reserve-2.ensures.same.blocks c.self.invariant.of_blocks;
       finishes = c.self.invariant.finishes;
@@ -29,7 +31,8 @@ invariant_of-self-in_err-reserve-3 c =
     let active = c.self.inside.active.value in
     let pending = option_map (λ commit. commit.value) c.self.inside.pending in
     rw same (record {
-      of_rows = λ id. c.reserve.ensures.rows id ∙ c.self.invariant.of_rows id;
+      of_rows = λ id. ap (option_map marked_row) (c.reserve.ensures.rows id) ∙ c.self.invariant.of_rows id;
+      over = λ id says. c.self.invariant.over id (sym (ap says_over (c.reserve.ensures.rows id)) ∙ says);
       of_elements = presence-same c.self.inside.elements c.reserve-2.new.table active pending c.reserve-2.ensures.same.presence c.self.invariant.of_elements;
       of_blocks = blocks-same c.self.inside.elements c.reserve-2.new.table c.self.inside.marks.marks c.reserve-2.ensures.same.blocks c.self.invariant.of_blocks;
       finishes = c.self.invariant.finishes;
@@ -50,10 +53,11 @@ invariant_of-self-2 c =
     let shown = subst (λ (o : Option Committed). PresenceStands c.self.inside.elements active o) free c.self.invariant.of_elements in
     rw same (record {
       of_rows = λ id.
-          c.join_pending.ensures active.tree.models marks
+          c.join_pending.ensures.rows active.tree.models marks
           (λ (model : Spec) there gone. follows-waits active.tree commit.tree marks follows model (rw c.deref-4.ensures at there) gone)
-          (λ (other : ℕ). c.reserve.ensures.rows other ∙ c.self.invariant.of_rows other ∙ ap (λ (ms : List Spec). row_for active.tree.models ms marks other) none) id
+          (λ (other : ℕ). ap (option_map marked_row) (c.reserve.ensures.rows other) ∙ c.self.invariant.of_rows other ∙ ap (λ (ms : List Spec). row_for active.tree.models ms marks other) none) id
           ∙ ap (λ (m : Committed). row_for active.tree.models m.tree.models marks id) c.deref-4.ensures;
+      over = λ id says. c.self.invariant.over id (sym (ap says_over (c.reserve.ensures.rows id)) ∙ c.join_pending.ensures.over id says);
       of_elements =
           presence-announced c.reserve-2.new.table c.announce.new.table active commit (rw c.deref-5.ensures at c.announce.ensures)
           (presence-same c.self.inside.elements c.reserve-2.new.table active None c.reserve-2.ensures.same.presence shown);

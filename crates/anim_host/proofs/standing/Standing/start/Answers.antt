@@ -1,13 +1,15 @@
-use Rattle.std.proofs.Common.{◌≡◌, ◌∷◌, [], ◌++◌, ap, refl, to_z-of_z, ◌∙◌}
+use Rattle.std.proofs.Common.{◌≡◌, ◌≢◌, ℕ, ◌∷◌, [], ◌++◌, length, ap, refl, to_z-of_z, ◌∙◌}
 use Rattle.std.specs.Prelude.{option_map, ℤ}
 use Rattle.keyframe_model.specs.Models.{property_of}
 use Rattle.tree_commit.specs.declared.runs.mark.Mark.TheVariants.{Started}
 use Rattle.host_tables.specs.MarkLists.{Marked}
-use Rattle.host_tables.specs.Rows.{row_at}
+use Rattle.host_tables.specs.Rows.{advanced_row, marked_at, marked_row, row_at}
 use Rattle.host_tables.specs.States.{models_of}
 use Rattle.anim_host.proofs.BlockLemmas.{free-or-own, start-blocks}
 use Rattle.host_tables.proofs.ElementLemmas.{presence-same}
 use Rattle.anim_host.proofs.FitLemmas.{fits-next, follows-more}
+use Rattle.host_tables.proofs.MarkedLemmas.{row-marked-advanced}
+use Rattle.anim_host.proofs.OverLemmas.{over-next}
 use Rattle.anim_host.proofs.StandLemmas.{advanced-next}
 use Rattle.host_tables.proofs.StateLemmas.{finishes-started}
 use Rattle.anim_host.proofs.standing.Standing.start.Goals as goal
@@ -30,6 +32,9 @@ invariant_of-self c =
     let is_mark : c.started-mark.result ≡ mark = c.started-mark.ensures ∙ ap (λ (z : ℤ). Started model.id model.group model.element (property_of model) c.args.at z) (to_z-of_z c.ranges.start) in
     let more : c.push.new.self.marks ≡ marks ++ mark ∷ [] = ap (λ (m : Marked). m.marks) c.push.ensures ∙ ap (λ m. marks ++ m ∷ []) is_mark in
     let order = c.next_order-order.ensures in
+    let here : row_at c.advance.new.self model.id ≡ option_map (advanced_row mark (length marks)) (row_at c.self.inside.rows model.id) =
+    rw (is_mark, order) at c.advance.ensures.here in
+    let others : (id : ℕ) → id ≢ model.id → row_at c.advance.new.self id ≡ row_at c.self.inside.rows id = rw is_mark at c.advance.ensures.others in
     let there = rw (← c.self.view_is) at c.requires.there in
     let alive = rw (← c.self.view_is) at c.requires.alive in
     let whole = rw (← c.self.view_is) at c.requires.whole in
@@ -37,8 +42,13 @@ invariant_of-self c =
     let differ = rw c.deref.ensures at c.model_count.ensures.differ in
     rw more (record {
       of_rows =
-          advanced-next (row_at c.self.inside.rows) (row_at c.advance.new.self) active.tree.models (models_of pending) marks mark
-          before.of_rows before.finishes (rw (is_mark, order) at c.advance.ensures.here) (rw is_mark at c.advance.ensures.others);
+          advanced-next (marked_at c.self.inside.rows) (marked_at c.advance.new.self) active.tree.models (models_of pending) marks mark
+          before.of_rows before.finishes
+          (ap (option_map marked_row) here ∙ row-marked-advanced (row_at c.self.inside.rows model.id) mark (length marks))
+          (λ id differ. ap (option_map marked_row) (others id differ));
+      over =
+          over-next (row_at c.self.inside.rows) (row_at c.advance.new.self) active.tree marks mark (length marks) c.self.inside.last_tick
+          here others before.over;
       of_elements = presence-same c.self.inside.elements c.hold.new.table active pending c.hold.ensures.presence before.of_elements;
       of_blocks =
           start-blocks c.self.inside.elements c.hold.new.table marks model.id model.group model.element (property_of model) c.args.at c.args.start

@@ -8,9 +8,12 @@ use Rattle.tree_commit.specs.Follows.{Follows}
 use Rattle.tree_commit.specs.declared.runs.mark.Mark.{Mark}
 use Rattle.host_tables.specs.Elements.{PresenceStands}
 use Rattle.anim_host.specs.Fits.{IsThereIfRunning}
+use Rattle.host_tables.specs.Rows.{marked_at, row_at}
 use Rattle.host_tables.specs.States.{models_of, row_for}
+use Rattle.tree_commit.specs.Tables.{HasAllTimelines}
 use Rattle.host_tables.proofs.ElementLemmas.{blocks-same}
 use Rattle.anim_host.proofs.FitLemmas.{fits-over}
+use Rattle.anim_host.proofs.OverLemmas.{over-taken}
 use Rattle.anim_host.proofs.standing.Standing.take_over.Goals as goal
 
 pub invariant_of-self : goal.invariant_of-self
@@ -29,21 +32,26 @@ invariant_of-self c =
     let follows : Follows active.tree new.tree marks = subst (λ (o : Option Committed). IfSome o (λ commit. Follows active.tree commit.tree marks)) is_pending before.follows in
     let shown : PresenceStands c.self.inside.elements active (Some new) = subst (λ (o : Option Committed). PresenceStands c.self.inside.elements active o) is_pending before.of_elements in
     let running = rw (← c.self.view_is) at c.requires.running in
+    let all : HasAllTimelines active.tree = rw c.deref.ensures at c.model_count.ensures.timelines_there in
+    let stand : (id : ℕ) → marked_at c.self.inside.rows id ≡ row_for active.tree.models new.tree.models marks id = λ (id : ℕ).
+    before.of_rows id ∙ ap (λ (o : Option Committed). row_for active.tree.models (models_of o) marks id) is_pending in
     rw none (record {
       of_rows = λ id.
-          c.enter_active.ensures marks
+          c.enter_active.ensures.rows marks
           (λ (other : ℕ).
-          c.leave_active.ensures new.tree.models marks
+          c.leave_active.ensures.rows new.tree.models marks
           (λ (one : ℕ).
-          before.of_rows one
-          ∙ ap (λ (o : Option Committed). row_for active.tree.models (models_of o) marks one) is_pending
-          ∙ ap (λ (m : Committed). row_for m.tree.models new.tree.models marks one) (sym c.deref.ensures))
+          stand one
+          ∙ ap (λ (m : Committed). row_for m.tree.models new.tree.models marks one) (sym c.deref-in-Some.ensures))
           other
-          ∙ ap (λ (m : Committed). row_for [] m.tree.models marks other) (sym c.deref-in-Some.ensures))
+          ∙ ap (λ (m : Committed). row_for [] m.tree.models marks other) (sym c.deref-in-Some-2.ensures))
           id
-          ∙ ap (λ (m : Committed). row_for m.tree.models [] marks id) c.deref-in-Some.ensures;
+          ∙ ap (λ (m : Committed). row_for m.tree.models [] marks id) c.deref-in-Some-2.ensures;
+      over = λ id says.
+          let was = c.leave_active.ensures.over id (c.enter_active.ensures.over id says) in
+          over-taken (row_at c.self.inside.rows id) active.tree new.tree marks c.self.inside.last_tick id follows all (stand id) was (before.over id was);
       of_elements = record {
-        of_active = λ e. c.swap.ensures.active e ∙ ap (λ (m : Committed). has_element m.tree e) c.deref-in-Some-3.ensures;
+        of_active = λ e. c.swap.ensures.active e ∙ ap (λ (m : Committed). has_element m.tree e) c.deref-in-Some-4.ensures;
         of_pending = c.swap.ensures.pending;
       };
       of_blocks = blocks-same c.self.inside.elements c.swap.new.table marks c.swap.ensures.blocks before.of_blocks;

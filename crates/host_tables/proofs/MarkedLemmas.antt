@@ -1,0 +1,139 @@
+-- Rows as the marks know them, and which rows say that their models were found over: what each change of a row makes of it.
+use Rattle.std.proofs.Common.{◌≡◌, ◌≢◌, ◌∙◌, ℕ, Bool, true, false, Option, Some, None, refl, sym, ap, inl, inr}
+use Rattle.std.specs.Prelude.{option_map, option_and_then, if◌then◌else◌}
+use Rattle.std.proofs.lemmas.Bool.Decides.{eqb_tells}
+use Rattle.tree_commit.specs.declared.runs.mark.Mark.{Mark}
+use Rattle.tree_commit.specs.declared.runs.mark.Mark.TheVariants.{Started, Finished, Aborted}
+use Rattle.keyframe_effect.specs.declared.state.RunState.{RunState}
+use Rattle.keyframe_effect.specs.declared.state.RunState.TheVariants as state
+use Rattle.keyframe_effect.specs.States.{after_done, is_ended, is_unfinished}
+use Rattle.host_tables.specs.declared.row.ModelRow.{ModelRow}
+use Rattle.host_tables.specs.Rows.{advanced_row, done_row, entered, joined, left, marked_row, says_over}
+use Rattle.host_tables.specs.States.{advanced, as_marked, is_found_over, shown_at}
+
+-- ---- one state
+
+marked-advanced : (s : RunState) (mark : Mark) (order : ℕ) → as_marked (advanced s mark order) ≡ advanced (as_marked s) mark order
+marked-advanced state.Waiting (Started model group element property at start) order = refl
+marked-advanced (state.Running begun place) (Started model group element property at start) order = refl
+marked-advanced (state.Done begun place) (Started model group element property at start) order = refl
+marked-advanced (state.Finished begun place) (Started model group element property at start) order = refl
+marked-advanced state.Aborted (Started model group element property at start) order = refl
+marked-advanced state.Waiting (Finished model at) order = refl
+marked-advanced (state.Running begun place) (Finished model at) order = refl
+marked-advanced (state.Done begun place) (Finished model at) order = refl
+marked-advanced (state.Finished begun place) (Finished model at) order = refl
+marked-advanced state.Aborted (Finished model at) order = refl
+marked-advanced s (Aborted model commit) order = refl
+
+marked-done : (s : RunState) → as_marked (after_done s) ≡ as_marked s
+marked-done state.Waiting = refl
+marked-done (state.Running begun place) = refl
+marked-done (state.Done begun place) = refl
+marked-done (state.Finished begun place) = refl
+marked-done state.Aborted = refl
+
+-- what a state says is what it says as the marks know it
+pub marked-runs : (s : RunState) → is_unfinished s ≡ is_unfinished (as_marked s)
+marked-runs state.Waiting = refl
+marked-runs (state.Running begun place) = refl
+marked-runs (state.Done begun place) = refl
+marked-runs (state.Finished begun place) = refl
+marked-runs state.Aborted = refl
+
+pub marked-ended : (s : RunState) → is_ended s ≡ is_ended (as_marked s)
+marked-ended state.Waiting = refl
+marked-ended (state.Running begun place) = refl
+marked-ended (state.Done begun place) = refl
+marked-ended (state.Finished begun place) = refl
+marked-ended state.Aborted = refl
+
+pub marked-shown : (s : RunState) → shown_at s ≡ shown_at (as_marked s)
+marked-shown state.Waiting = refl
+marked-shown (state.Running begun place) = refl
+marked-shown (state.Done begun place) = refl
+marked-shown (state.Finished begun place) = refl
+marked-shown state.Aborted = refl
+
+-- a model that was found over runs
+pub over-runs : (s : RunState) → is_found_over s ≡ true → is_unfinished s ≡ true
+over-runs state.Waiting is = cc
+over-runs (state.Running begun place) is = refl
+over-runs (state.Done begun place) is = refl
+over-runs (state.Finished begun place) is = cc
+over-runs state.Aborted is = cc
+
+-- a mark finds nothing over
+over-advanced : (s : RunState) (mark : Mark) (order : ℕ) → is_found_over (advanced s mark order) ≡ true → is_found_over s ≡ true
+over-advanced state.Waiting (Started model group element property at start) order is = is
+over-advanced (state.Running begun place) (Started model group element property at start) order is = is
+over-advanced (state.Done begun place) (Started model group element property at start) order is = refl
+over-advanced (state.Finished begun place) (Started model group element property at start) order is = is
+over-advanced state.Aborted (Started model group element property at start) order is = is
+over-advanced state.Waiting (Finished model at) order is = is
+over-advanced (state.Running begun place) (Finished model at) order is = is
+over-advanced (state.Done begun place) (Finished model at) order is = refl
+over-advanced (state.Finished begun place) (Finished model at) order is = is
+over-advanced state.Aborted (Finished model at) order is = is
+over-advanced s (Aborted model commit) order is = cc
+
+-- ---- one row, as the marks know it
+
+pub row-marked-advanced : (row : Option ModelRow) (mark : Mark) (order : ℕ)
+    → option_map marked_row (option_map (advanced_row mark order) row) ≡ option_map (advanced_row mark order) (option_map marked_row row)
+row-marked-advanced None mark order = refl
+row-marked-advanced (Some row) mark order = ap (λ (s : RunState). Some (record row { state = s })) (marked-advanced row.state mark order)
+
+pub row-marked-done : (row : Option ModelRow) → option_map marked_row (option_map done_row row) ≡ option_map marked_row row
+row-marked-done None = refl
+row-marked-done (Some row) = ap (λ (s : RunState). Some (record row { state = s })) (marked-done row.state)
+
+pub row-marked-joined : (id : ℕ) (row : Option ModelRow) → option_map marked_row (Some (joined id row)) ≡ Some (joined id (option_map marked_row row))
+row-marked-joined id None = refl
+row-marked-joined id (Some row) = refl
+
+pub row-marked-left : (row : Option ModelRow) → option_map marked_row (option_and_then left row) ≡ option_and_then left (option_map marked_row row)
+row-marked-left None = refl
+row-marked-left (Some row) = by-test row.in_pending
+  where
+    by-test : (b : Bool) → option_map marked_row (if b then Some (record row { in_active = false }) else None)
+        ≡ (if b then Some (record (marked_row row) { in_active = false }) else None)
+    by-test true = refl
+    by-test false = refl
+
+pub row-marked-entered : (row : Option ModelRow) → option_map marked_row (option_map entered row) ≡ option_map entered (option_map marked_row row)
+row-marked-entered None = refl
+row-marked-entered (Some row) = refl
+
+-- ---- one row, and whether it says that its model was found over
+
+pub row-over-advanced : (row : Option ModelRow) (mark : Mark) (order : ℕ) → says_over (option_map (advanced_row mark order) row) ≡ true → says_over row ≡ true
+row-over-advanced None mark order is = is
+row-over-advanced (Some row) mark order is = over-advanced row.state mark order is
+
+pub row-over-joined : (id : ℕ) (row : Option ModelRow) → says_over (Some (joined id row)) ≡ true → says_over row ≡ true
+row-over-joined id None is = is
+row-over-joined id (Some row) is = is
+
+pub row-over-left : (row : Option ModelRow) → says_over (option_and_then left row) ≡ true → says_over row ≡ true
+row-over-left None is = is
+row-over-left (Some row) is = by-test row.in_pending is
+  where
+    by-test : (b : Bool) → says_over (if b then Some (record row { in_active = false }) else None) ≡ true → says_over (Some row) ≡ true
+    by-test true is = is
+    by-test false is = cc
+
+pub row-over-entered : (row : Option ModelRow) → says_over (option_map entered row) ≡ true → says_over row ≡ true
+row-over-entered None is = is
+row-over-entered (Some row) is = is
+
+-- a change of one row that finds nothing over
+pub over-back : (at new : ℕ → Option ModelRow) (one : ℕ)
+    → (says_over (new one) ≡ true → says_over (at one) ≡ true)
+    → ((id : ℕ) → id ≢ one → new id ≡ at id)
+    → (id : ℕ) → says_over (new id) ≡ true → says_over (at id) ≡ true
+over-back at new one here others id is =
+    elim (eqb_tells id one) [
+      | inl t ↦ ap (λ (n : ℕ). says_over (at n)) t.1 ∙ here (ap (λ (n : ℕ). says_over (new n)) (sym t.1) ∙ is)
+      | inr f ↦ ap says_over (sym (others id f.1)) ∙ is
+    ]
