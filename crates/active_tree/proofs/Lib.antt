@@ -1,3 +1,4 @@
+pub mod AgreeLemmas
 mod CountLemmas
 mod KeptLemmas
 mod ListLemmas

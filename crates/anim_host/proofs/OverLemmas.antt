@@ -1,13 +1,10 @@
 -- Models that are done: they stay done as ticks come, as marks come and as a commit takes over.
-use Rattle.std.proofs.Common.{◌≡◌, ◌≢◌, ℕ, suc, ◌+◌, ◌-◌, ◌*◌, ◌≤◌, Bool, true, false, ◌||◌, List, [], ◌∷◌, ◌++◌, map, Option, Some, None, refl, sym, ap, subst, ◌∙◌, nat_eq, arith, inl, inr}
-use Rattle.std.specs.Prelude.{ℤ, pos, negsuc, ◌+ℤ◌, ◌-ℤ◌, unsigned_abs, nat_le, slice_get, All, ◌==◌, ◌&&◌, if◌then◌else◌, option_map, IsTrue}
-use Rattle.std.specs.Int.{is_negative}
+use Rattle.std.proofs.Common.{◌≡◌, ◌≢◌, ℕ, suc, ◌≤◌, Bool, true, false, ◌||◌, List, [], ◌∷◌, ◌++◌, map, Option, Some, None, refl, sym, ap, subst, ◌∙◌, nat_eq, inl, inr}
+use Rattle.std.specs.Prelude.{◌-ℤ◌, slice_get, All, ◌==◌, option_map, IsTrue}
 use Rattle.std.specs.List.{IsDistinct}
 use Rattle.std.proofs.lemmas.Bool.Decides.{eqb_tells}
-use Rattle.std.proofs.lemmas.Int.{ints}
 use Rattle.anim_timeline.specs.Timelines.{timeline_time}
-use Rattle.micro_time.specs.declared.phase.Phase.TheVariants.{Before, Active, After}
-use Rattle.micro_time.specs.Timings.{TimingParts, is_after, is_done, is_finite, phase, total}
+use Rattle.micro_time.specs.Timings.{is_done}
 use Rattle.keyframe_model.specs.Models.{Spec}
 use Rattle.keyframe_effect.specs.States.{is_unfinished}
 use Rattle.tree_commit.specs.declared.runs.mark.Mark.{Mark}
@@ -17,6 +14,7 @@ use Rattle.tree_commit.specs.Follows.{Follows, IsAmong, has_mark}
 use Rattle.tree_commit.specs.Marks.{is_over, is_running, is_started, model_of, start_of}
 use Rattle.tree_commit.specs.Tables.{HasAllTimelines, has_timeline}
 use Rattle.tree_commit.specs.Trees.{TreeLists, origin_of}
+use Rattle.tree_commit.proofs.OverLemmas.{over-later as stays-over}
 use Rattle.host_tables.specs.declared.row.ModelRow.{ModelRow}
 use Rattle.host_tables.specs.Rows.{advanced_row, done_row, marked_row, says_over}
 use Rattle.host_tables.specs.States.{row_for}
@@ -27,49 +25,12 @@ use Rattle.anim_host.specs.Standing.{IsOver}
 use Rattle.anim_host.proofs.FitLemmas.{same-model}
 use Rattle.anim_host.proofs.StandLemmas.{row-state}
 
--- ---- a later local time
-
-not-negative : (a : ℕ) → is_negative (pos a) ≡ false
-not-negative a = grind (arith, ints)
-
-more : (whole a d rate : ℕ) → nat_le whole (a * rate) ≡ true → nat_le whole ((a + d) * rate) ≡ true
-more whole a d rate is = grind arith
-
-both : (finite first second : Bool) → (first ≡ true → second ≡ true)
-    → is_after (if finite && first then After else Active) ≡ true → is_after (if finite && second then After else Active) ≡ true
-both true true true so is = refl
-both true true false so is = cc (so refl)
-both true false second so is = cc
-both false first second so is = cc
-
-after-later : (z : ℤ) (d rate whole : ℕ) (finite : Bool)
-    → is_after (if is_negative z then Before else if finite && nat_le whole (unsigned_abs z * rate) then After else Active) ≡ true
-    → is_after (if is_negative (z +ℤ pos d) then Before else if finite && nat_le whole (unsigned_abs (z +ℤ pos d) * rate) then After else Active) ≡ true
-after-later (pos a) d rate whole finite is =
-    let now = subst (λ (b : Bool). is_after (if b then Before else if finite && nat_le whole (a * rate) then After else Active) ≡ true) (not-negative a) is in
-    subst (λ (b : Bool). is_after (if b then Before else if finite && nat_le whole ((a + d) * rate) then After else Active) ≡ true) (sym (not-negative (a + d)))
-    (both finite (nat_le whole (a * rate)) (nat_le whole ((a + d) * rate)) (more whole a d rate) now)
-after-later (negsuc a) d rate whole finite is = cc
-
--- what is done stays done
-done-later : (t : TimingParts) (local : ℤ) (d : ℕ) → is_done t local ≡ true → is_done t (local +ℤ pos d) ≡ true
-unfolding is_done phase
-done-later t local d is =
-    let on : (local +ℤ pos d) +ℤ t.offset ≡ (local +ℤ t.offset) +ℤ pos d = omega (arith, ints) in
-    rw on (after-later (local +ℤ t.offset) d (unsigned_abs t.rate) (total t) (is_finite t.iterations) is)
-
-done-since : (t : TimingParts) (origin tick later : ℕ) (start : ℤ) → tick ≤ later
-    → is_done t (timeline_time origin tick -ℤ start) ≡ true → is_done t (timeline_time origin later -ℤ start) ≡ true
-done-since t origin tick later start le is =
-    let on : timeline_time origin later -ℤ start ≡ (timeline_time origin tick -ℤ start) +ℤ pos (later - tick) = omega (arith, ints) in
-    ap (is_done t) on ∙ done-later t (timeline_time origin tick -ℤ start) (later - tick) is
-
 -- ---- a later tick
 
 over-since : (tree : TreeLists) (tick later : ℕ) (model : Spec) (shown : Option Shown) → tick ≤ later
     → is_over tree tick model shown ≡ true → is_over tree later model shown ≡ true
 over-since tree tick later model None le is = is
-over-since tree tick later model (Some shown) le is = done-since model.timing (origin_of tree model.timeline) tick later shown.start le is
+over-since tree tick later model (Some shown) le is = stays-over tree model shown.start tick later le is
 
 pub over-later : (tree : TreeLists) (marks : List Mark) (tick later id : ℕ) → tick ≤ later → IsOver tree marks tick id → IsOver tree marks later id
 over-later tree marks tick later id le over = λ model there its. over-since tree tick later model (start_of marks id) le (over model there its)

@@ -5,7 +5,7 @@ ghost use Rattle.host_tables.specs.MarkLists.{StartsAreWithin, events_behind};
 ghost use Rattle.anim_timeline.specs.Timelines.{IsTime};
 ghost use Rattle.host_tables.specs.Blocks.{is_held_by};
 ghost use Rattle.host_tables.specs.Elements.{has_in};
-ghost use Rattle.tree_commit.specs.Follows.{Follows};
+ghost use Rattle.tree_commit.specs.Follows.{Follows, TreesAgree};
 ghost use Rattle.tree_commit.specs.Marks.{blocks};
 ghost use Rattle.tree_commit.specs.Trees.{empty_commit};
 
@@ -96,7 +96,10 @@ impl AnimHost {
     pub fn activate(&mut self, active: &Commit, pending: &Commit)
         requires active { active.now ≡ self.old.active }
         requires pending { self.old.pending ≡ Some pending.now }
-        ensures { self.new ≡ after_activation self.old pending.now }
+        ensures activated { self.new ≡ after_activation self.old pending.now }
+
+        // Of every host: a model of both commits is one, and a timeline of both has one zero.
+        ensures agree { TreesAgree active.now.tree pending.now.tree }
     {
         abort_lost(&mut self.standing, active, &self.shape, pending);
         self.standing.vouch();

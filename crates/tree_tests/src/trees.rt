@@ -68,6 +68,7 @@ fn at_first_a_frame_shows_nothing(rt: HostRuntime) -> Result<(), Fail> {
 }
 
 #[test]
+#[tactic(auto, using(active_tree::proofs::AgreeLemmas::agree_from_empty))]
 fn a_frame_shows_what_is_each_elements_own(rt: HostRuntime) -> Result<(), Fail> {
     let mut active = ActiveTree::new(rt.alloc())?;
     active.set(samples::small_commit(rt.alloc(), 1)?);
