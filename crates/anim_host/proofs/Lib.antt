@@ -6,4 +6,5 @@ pub mod GrowLemmas
 pub mod FitLemmas
 pub mod BlockLemmas
 pub mod SettleLemmas
+pub mod TellLemmas
 pub mod OverLemmas

@@ -1,18 +1,28 @@
 -- The rows stand for the commits and the marks: what each change of a row keeps.
-use Rattle.std.proofs.Common.{◌≡◌, ◌≢◌, ℕ, ◌+◌, Bool, true, false, ◌||◌, List, [], ◌∷◌, ◌++◌, length, map, take, drop, Option, Some, None, refl, sym, ap, ◌∙◌, nat_eq, add-one, inl, inr}
-use Rattle.std.specs.Prelude.{slice_get, ◌==◌, option_map, option_and_then}
+use Rattle.std.proofs.Common.{◌≡◌, ◌≢◌, ℕ, ◌+◌, Bool, true, false, ◌||◌, List, [], ◌∷◌, ◌++◌, length, map, take, drop, Option, Some, None, refl, sym, ap, ◌∙◌, subst, ◌≤◌, nat_eq, add-one, inl, inr}
+use Rattle.std.specs.Prelude.{slice_get, ◌==◌, option_map, option_and_then, IfSome}
 use Rattle.std.specs.List.{IsDistinct}
 use Rattle.std.proofs.lemmas.Bool.{eq-eqb}
 use Rattle.std.proofs.lemmas.Bool.Decides.{eqb_tells}
 use Rattle.std.proofs.lemmas.Option.{none-some, same_Some}
 use Rattle.keyframe_model.specs.Models.{Spec}
 use Rattle.tree_commit.specs.declared.runs.mark.Mark.{Mark}
+use Rattle.tree_commit.specs.declared.runs.mark.Mark.TheVariants.{Started, Finished, Aborted}
+use Rattle.tree_commit.specs.Follows.{IsAmong}
 use Rattle.tree_commit.specs.Marks.{model_of}
+use Rattle.anim_host.specs.Fits.{IsOf}
+use Rattle.keyframe_effect.specs.Groups.{CanMove, first_row, moved, moved_count, one_if, row_with}
+use Rattle.keyframe_effect.specs.States.{is_unfinished, is_waiting}
+use Rattle.host_tables.proofs.MarkedLemmas.{marked-advanced, marked-runs, marked-waits, state-marked}
+use Rattle.keyframe_effect.specs.declared.group.GroupRow.{GroupRow}
+use Rattle.keyframe_effect.specs.declared.state.RunState.{RunState}
+use Rattle.host_tables.specs.Groups.{group_row_of, joined_row}
+use Rattle.host_tables.proofs.GroupLemmas.{group-can, group-else, group-here, joined-else, joined-here}
 use Rattle.host_tables.specs.declared.row.ModelRow.{ModelRow}
 use Rattle.keyframe_effect.specs.declared.state.RunState.TheVariants as state
-use Rattle.host_tables.specs.Rows.{advanced_row, entered, joined, left}
-use Rattle.host_tables.specs.States.{FinishesStarted, advanced, is_among, row_for, row_if, state_of}
-use Rattle.host_tables.proofs.AmongLemmas.{among-left, among-taken, apart-before, apart-behind}
+use Rattle.host_tables.specs.Rows.{advanced_row, entered, joined, left, marked_row, state_in}
+use Rattle.host_tables.specs.States.{FinishesStarted, advanced, as_marked, is_among, row_for, row_if, state_of}
+use Rattle.host_tables.proofs.AmongLemmas.{among-left, among-taken, among-there, apart-before, apart-behind, found-there}
 use Rattle.host_tables.proofs.StateLemmas.{state-here, state-other}
 
 -- ---- one row
@@ -210,6 +220,12 @@ pub row-state : (active pending : List Spec) (marks : List Mark) (id : ℕ) (row
 unfolding row_for
 row-state active pending marks id row is = read-state (is_among active id) (is_among pending id) marks id row is
 
+-- so does what is read of a model of the active commit
+pub row-stated : (active pending : List Spec) (marks : List Mark) (id : ℕ) → is_among active id ≡ true
+    → state_in (row_for active pending marks id) ≡ state_of marks id
+unfolding row_for
+row-stated active pending marks id there = ap (λ b. state_in (row_if b (is_among pending id) marks id)) there
+
 -- and whether its model is in the active commit
 pub row-active : (active pending : List Spec) (marks : List Mark) (id : ℕ) (row : ModelRow)
     → Some row ≡ row_for active pending marks id → row.in_active ≡ is_among active id
@@ -226,3 +242,125 @@ row-none active pending marks id is = read-none (is_among active id) (is_among p
 pub row-nowhere : (marks : List Mark) (id : ℕ) → row_for [] [] marks id ≡ None
 unfolding row_for
 row-nowhere marks id = refl
+
+-- ---- the rows of the groups
+
+of-model : (mark : Mark) (model : Spec) → IsOf mark model → model_of mark ≡ model.id
+of-model (Started id group element property at start) model of = of.0
+of-model (Finished id at) model of = of
+of-model (Aborted id commit) model of = of
+
+module _ (at : ℕ → Option GroupRow) (models pending : List Spec) (rows : ℕ → Option ModelRow) (marks : List Mark) (mark : Mark) (model : Spec)
+    (before after : RunState) (differ : IsDistinct nat_eq (map (λ m. m.id) models)) (there : IsAmong model models) (of : IsOf mark model)
+    (fits : FinishesStarted marks) (more : FinishesStarted (marks ++ mark ∷ []))
+    (stand : (id : ℕ) → option_map marked_row (rows id) ≡ row_for models pending marks id)
+    (was : before ≡ state_in (rows model.id)) (is : after ≡ advanced before mark (length marks))
+    (counts : (group : ℕ) → at group ≡ group_row_of models marks group)
+  where
+    had : as_marked before ≡ state_of marks model.id
+    had =
+        ap as_marked was
+        ∙ state-marked (rows model.id)
+        ∙ ap state_in (stand model.id)
+        ∙ row-stated models pending marks model.id (among-there models model there)
+
+    has : as_marked after ≡ state_of (marks ++ mark ∷ []) model.id
+    has =
+        ap as_marked is
+        ∙ marked-advanced before mark (length marks)
+        ∙ ap (λ s. advanced s mark (length marks)) (had ∙ ap (state_of marks) (sym (of-model mark model of)))
+        ∙ sym (state-here marks mark fits)
+        ∙ ap (state_of (marks ++ mark ∷ [])) (of-model mark model of)
+
+    -- what a row makes of a step is what it makes of it as the marks know it
+    moves-marked : (o : Option GroupRow) → option_map (moved before after) o ≡ option_map (moved (as_marked before) (as_marked after)) o
+    moves-marked o = λ i.
+        option_map
+        (λ (row : GroupRow). record row {
+          waiting = moved_count (marked-waits before i) (marked-waits after i) row.waiting;
+          unfinished = moved_count (marked-runs before i) (marked-runs after i) row.unfinished;
+        })
+        o
+
+    can-marked : (most : ℕ) (o : Option GroupRow) → IfSome o (CanMove most (as_marked before) (as_marked after)) → IfSome o (CanMove most before after)
+    can-marked most None can = tt
+    can-marked most (Some row) can = record {
+      waited = subst (λ (b : Bool). one_if b ≤ row.waiting) (sym (marked-waits before)) can.waited;
+      ran = subst (λ (b : Bool). one_if b ≤ row.unfinished) (sym (marked-runs before)) can.ran;
+      waiting =
+          subst (λ (b : Bool). row.waiting + one_if b ≤ most + one_if (is_waiting before)) (sym (marked-waits after))
+          (subst (λ (b : Bool). row.waiting + one_if (is_waiting (as_marked after)) ≤ most + one_if b) (sym (marked-waits before)) can.waiting);
+      unfinished =
+          subst (λ (b : Bool). row.unfinished + one_if b ≤ most + one_if (is_unfinished before)) (sym (marked-runs after))
+          (subst (λ (b : Bool). row.unfinished + one_if (is_unfinished (as_marked after)) ≤ most + one_if b) (sym (marked-runs before)) can.unfinished);
+    }
+
+    -- the row of the model's group can take the step
+    pub counted-can : (most : ℕ) → length models ≤ most → IfSome (at model.group) (CanMove most before after)
+    counted-can most few =
+        subst (λ (o : Option GroupRow). IfSome o (CanMove most before after)) (sym (counts model.group))
+        (can-marked most (group_row_of models marks model.group)
+        (group-can models marks mark model differ there (of-model mark model of) fits more (as_marked before) (as_marked after) most had has few))
+
+    -- one more mark
+    pub counted-next : (new : ℕ → Option GroupRow)
+        → new model.group ≡ option_map (moved before after) (at model.group)
+        → ((group : ℕ) → group ≢ model.group → new group ≡ at group)
+        → (group : ℕ) → new group ≡ group_row_of models (marks ++ mark ∷ []) group
+    counted-next new here others group =
+        elim (eqb_tells group model.group) [
+          | inl t ↦
+              ap new t.1
+              ∙ here
+              ∙ ap (option_map (moved before after)) (counts model.group)
+              ∙ moves-marked (group_row_of models marks model.group)
+              ∙ sym (group-here models marks mark model differ there (of-model mark model of) fits more (as_marked before) (as_marked after) had has)
+              ∙ ap (group_row_of models (marks ++ mark ∷ [])) (sym t.1)
+          | inr f ↦
+              others group f.1
+              ∙ counts group
+              ∙ sym (group-else models marks mark model differ there (of-model mark model of) fits more group f.1)
+        ]
+
+joins-marked : (model : Spec) (state : RunState) (o : Option GroupRow) → joined_row model state o ≡ joined_row model (as_marked state) o
+joins-marked model state None = λ i. record (first_row model state) { waiting = one_if (marked-waits state i); unfinished = one_if (marked-runs state i) }
+joins-marked model state (Some row) = λ i.
+    record (row_with model state row) {
+      waiting = row.waiting + one_if (marked-waits state i);
+      unfinished = row.unfinished + one_if (marked-runs state i);
+    }
+
+-- one more model of the commit
+pub joined-group-next : (at new : ℕ → Option GroupRow) (models : List Spec) (marks : List Mark) (i : ℕ) (model : Spec) (state : RunState)
+    (rows : ℕ → Option ModelRow)
+    → slice_get models i ≡ Some model
+    → FinishesStarted marks
+    → ((id : ℕ) → option_map marked_row (rows id) ≡ row_for models [] marks id)
+    → state ≡ state_in (rows model.id)
+    → new model.group ≡ Some (joined_row model state (at model.group))
+    → ((group : ℕ) → group ≢ model.group → new group ≡ at group)
+    → ((group : ℕ) → at group ≡ group_row_of (take i models) marks group)
+    → (group : ℕ) → new group ≡ group_row_of (take (i + 1) models) marks group
+joined-group-next at new models marks i model state rows found fits stand was here others counts group =
+    let had : as_marked state ≡ state_of marks model.id =
+    ap as_marked was ∙ state-marked (rows model.id) ∙ ap state_in (stand model.id) ∙ row-stated models [] marks model.id (found-there models i model found) in
+    elim (eqb_tells group model.group) [
+      | inl t ↦
+          ap new t.1
+          ∙ here
+          ∙ ap (λ (o : Option GroupRow). Some (joined_row model state o)) (counts model.group)
+          ∙ ap Some (joins-marked model state (group_row_of (take i models) marks model.group))
+          ∙ sym (joined-here models i model found marks (as_marked state) fits had)
+          ∙ ap (λ (k : ℕ). group_row_of (take k models) marks model.group) (sym (add-one i))
+          ∙ ap (group_row_of (take (i + 1) models) marks) (sym t.1)
+      | inr f ↦
+          others group f.1
+          ∙ counts group
+          ∙ sym (joined-else models i model found marks group f.1)
+          ∙ ap (λ (k : ℕ). group_row_of (take k models) marks group) (sym (add-one i))
+    ]
+
+-- no rows where there are no models
+pub group-nowhere : (marks : List Mark) (group : ℕ) → group_row_of [] marks group ≡ None
+unfolding group_row_of
+group-nowhere marks group = refl

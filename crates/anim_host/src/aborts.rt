@@ -2,7 +2,6 @@
 
 ghost use Rattle.std.specs.Prelude.{◌≡◌, ◌+◌, ◌≤◌, ◌<◌, true, length};
 ghost use Rattle.host_tables.specs.MarkLists.{mark_if};
-ghost use Rattle.host_tables.specs.Shapes.{shape_of};
 ghost use Rattle.anim_host.specs.Standing.{with_new};
 ghost use Rattle.tree_commit.specs.Follows.{IsAmong};
 ghost use Rattle.tree_commit.specs.declared.runs.mark.Mark.TheVariants.{Aborted};
@@ -11,33 +10,24 @@ ghost use Rattle.tree_commit.specs.Trees.{has_model};
 
 use crate::ends::end_model;
 use crate::standing::Standing;
-use host_tables::{Shape, has_ended, runs};
+use host_tables::{has_ended, runs};
 use keyframe_model::ModelSpec;
 use tree_commit::{Commit, Mark};
 
 /// Appends the new marks as the commit takes the place of the active one. It takes no memory.
-pub(crate) fn abort_lost(standing: &mut Standing, active: &Commit, shape: &Shape, new: &Commit)
-    requires shape { shape.now ≡ shape_of active.now.tree.models }
+pub(crate) fn abort_lost(standing: &mut Standing, active: &Commit, new: &Commit)
     requires active { active.now ≡ standing.old.active }
     requires room { length standing.old.list.marks + length active.now.tree.models ≤ standing.old.list.room }
     ensures { standing.new ≡ with_new standing.old (marks_of_activation active.now.tree new.now standing.old.list.marks) }
 {
     for index in 0..active.model_count() {
-        abort_one(standing, active, shape, active.model_at(index), new);
+        abort_one(standing, active.model_at(index), new);
     }
 }
 
 // The model's end where it is lost.
-fn abort_one(
-    standing: &mut Standing,
-    active: &Commit,
-    shape: &Shape,
-    model: &ModelSpec,
-    new: &Commit,
-)
-    requires active { active.now ≡ standing.old.active }
-    requires shape { shape.now ≡ shape_of active.now.tree.models }
-    requires there { IsAmong model.now active.now.tree.models }
+fn abort_one(standing: &mut Standing, model: &ModelSpec, new: &Commit)
+    requires there { IsAmong model.now standing.old.active.tree.models }
     requires room { length standing.old.list.marks < standing.old.list.room }
     ensures { standing.new ≡ with_new standing.old
         (mark_if (is_lost new.now.tree standing.old.list.marks model.now) (Aborted model.now.id new.now.number)) }
@@ -47,7 +37,7 @@ fn abort_one(
             model: model.id(),
             commit: new.number(),
         };
-        end_model(standing, active, shape, model, mark);
+        end_model(standing, model, mark);
     }
 }
 

@@ -20,7 +20,8 @@ use std::sync::Arc;
 use tree_commit::{Commit, Shown, StartTable};
 
 /// What the compositor keeps of its animations: the active and the pending commit, every mark that was made, and the
-/// tables that say quickly what these say: a row for each model of either commit, and the groups of each commit.
+/// tables that say quickly what these say: a row for each model of either commit and for each group of the active one,
+/// and the groups of each commit.
 ///
 /// The compositor has one, on its own thread. It does not know values, curves or frames. A contract sees a `Hosting`.
 pub struct AnimHost {
@@ -101,7 +102,7 @@ impl AnimHost {
         // Of every host: a model of both commits is one, and a timeline of both has one zero.
         ensures agree { TreesAgree active.now.tree pending.now.tree }
     {
-        abort_lost(&mut self.standing, active, &self.shape, pending);
+        abort_lost(&mut self.standing, active, pending);
         self.standing.vouch();
         self.standing.take_over(pending);
         if let Some(shape) = self.next.take() {

@@ -1,15 +1,16 @@
 ghost use Rattle.std.specs.Prelude.{◌≡◌, ◌≢◌, ◌++◌, not, ◌≤◌, ◌<◌, ◌+◌, ℕ, [], ◌∷◌, length, List, map, nat_eq, unsigned_abs, IfSome, true, false, None, Some, IfOk, OnOk, OnErr, option_map, if◌then◌else◌};
-ghost use Rattle.std.specs.List.{list_any};
+ghost use Rattle.std.specs.List.{IsDistinct, list_any};
 ghost use Rattle.anim_timeline.specs.declared.TheConstants.{LAST_TIME};
 ghost use Rattle.host_tables.specs.MarkLists.{StartIsWithin};
-ghost use Rattle.anim_host.specs.Fits.{IsOf, IsThereIfRunning, MarksFit};
+ghost use Rattle.anim_host.specs.Fits.{AreSettled, IsOf, IsThereIfRunning, MarksFit};
 ghost use Rattle.host_tables.specs.Blocks.{IsReleased, is_held_by};
 ghost use Rattle.host_tables.specs.Elements.{has_in};
 ghost use Rattle.anim_names.specs.declared.lane.Tree as lane;
 ghost use Rattle.element_anims.specs.Elements.{is_present};
 ghost use Rattle.tree_commit.specs.declared.runs.mark.Mark.TheVariants.{Started};
+ghost use Rattle.host_tables.specs.Groups.{group_at, group_row_of};
 ghost use Rattle.host_tables.specs.Rows.{marked_at, row_at, says_over};
-ghost use Rattle.anim_host.specs.Standing.{IsOver, Stood, with_new};
+ghost use Rattle.anim_host.specs.Standing.{IsOver, Stood, holds_group, with_new};
 ghost use Rattle.host_tables.specs.States.{FinishesStarted, as_marked, is_among, is_found_over, row_for, shown_at, state_of};
 ghost use Rattle.keyframe_effect.specs.declared.state.RunState.TheVariants.{Waiting};
 ghost use Rattle.keyframe_effect.specs.States as state;
@@ -18,24 +19,24 @@ ghost use Rattle.keyframe_model.specs.Models.{Spec, property_of};
 ghost use Rattle.tree_commit.specs.declared.runs.mark.Mark as declared;
 ghost use Rattle.tree_commit.specs.Follows.{Follows, IsAmong};
 ghost use Rattle.tree_commit.specs.Frames.{shown_by};
-ghost use Rattle.tree_commit.specs.Marks.{aborts, blocks, ends, is_blocked_for, is_ended, is_group_running, is_over, is_running, is_started, model_of, start_of, starts_in};
+ghost use Rattle.tree_commit.specs.Marks.{aborts, blocks, ends, is_ended, is_group_running, is_over, is_ready, is_running, is_started, model_of, start_of, starts_in};
 ghost use Rattle.tree_commit.specs.Trees.{empty_commit, has_element, has_model};
 
 use anim_names::{ElementId, GroupId, ModelId, Property, Tree};
 use element_anims::ElementAnims;
 use host_tables::elements::{self, announce, hold, release, swap};
-use host_tables::{MarkList, RowTable, shown};
-use keyframe_effect::RunState;
+use host_tables::{GroupTable, MarkList, RowTable, advanced, shown};
+use keyframe_effect::{GroupRow, RunState};
 use keyframe_model::ModelSpec;
 use std::alloc::{AllocError, Global};
 use std::marker::Model;
 use std::sync::Arc;
 use tree_commit::{Commit, Mark, Shown};
 
-/// The active and the pending commit, all marks, the time of the last tick, and the table that says of each model of
-/// these commits how far it has come.
+/// The active and the pending commit, all marks, the time of the last tick, and the tables that say of each model of
+/// these commits how far it has come, and of each group of the active one how many of its models wait and run.
 ///
-/// It does not know which marks come when. That the table stands for the commits and the marks is its invariant: it
+/// It does not know which marks come when. That the tables stand for the commits and the marks is its invariant: it
 /// holds after every single mark. A contract sees the commits, the list of marks and the last tick; it does not see
 /// which models were found done.
 pub(crate) struct Standing {
@@ -43,6 +44,7 @@ pub(crate) struct Standing {
     pending: Option<Arc<Commit>>,
     marks: MarkList,
     rows: RowTable,
+    groups: GroupTable,
     elements: ElementAnims,
     last_tick: u64,
 }
@@ -54,6 +56,7 @@ impl Drop for Standing {
             pending: _pending,
             marks: _marks,
             rows: _rows,
+            groups: _groups,
             elements: _elements,
             last_tick: _,
         } = self;
@@ -74,7 +77,7 @@ impl Model for Standing {
     } };
 
     ghost invariant = { λ s.
-        StandsFor s.rows s.elements s.active.value (option_map (λ commit. commit.value) s.pending) s.marks.marks s.last_tick };
+        StandsFor s.rows s.groups s.elements s.active.value (option_map (λ commit. commit.value) s.pending) s.marks.marks s.last_tick };
 }
 
 impl Standing {
@@ -88,6 +91,7 @@ impl Standing {
             pending: None,
             marks: MarkList::new(alloc),
             rows: RowTable::new(alloc),
+            groups: GroupTable::new(alloc),
             elements: ElementAnims::new(alloc)?,
             last_tick: 0,
         })
@@ -166,27 +170,32 @@ impl Standing {
         self.elements.blocked_by(element, property)
     }
 
-    /// Whether some other group blocks the property of the element.
-    pub(crate) fn is_blocked_for(
-        &self,
-        group: GroupId,
-        element: ElementId,
-        property: Property,
-    ) -> bool
-        ensures { result ≡ is_blocked_for self.now.list.marks group element property }
+    /// The row of a group, where the active commit has a model of it.
+    pub(crate) fn group_row(&self, group: GroupId) -> Option<GroupRow>
+        ensures { result ≡ group_row_of self.now.active.tree.models self.now.list.marks group }
     {
-        match self.elements.blocked_by(element, property) {
+        self.groups.row(group)
+    }
+
+    /// Whether the group may start. `pending_holds` says whether a pending commit has a model of it.
+    pub(crate) fn is_ready(&self, group: GroupId, pending_holds: bool) -> bool
+        requires holds { pending_holds ≡ holds_group self.now.pending group }
+        requires settled { AreSettled self.now.active.tree.models self.now.list.marks }
+        ensures { result ≡ is_ready self.now.active.tree self.now.pending self.now.list.marks group }
+    {
+        match self.groups.row(group) {
             None => false,
-            Some(blocker) => group != blocker,
+            Some(row) => row.ready(&self.elements, pending_holds),
         }
     }
 
     /// Does nothing. What is so of every value of the type, its clauses say of this one.
     pub(crate) fn vouch(&self)
+        ensures differ { IsDistinct nat_eq (map (λ model. model.id) self.now.active.tree.models) }
         ensures fits { MarksFit self.now.active.tree.models self.now.list.marks }
         ensures follows { IfSome self.now.pending (λ commit. Follows self.now.active.tree commit.tree self.now.list.marks) }
     {
-        let _ = &self.rows;
+        let _ = self.active.model_count();
     }
 
     /// Makes room for this many further marks. Where there is no memory, all stays as it was.
@@ -233,7 +242,10 @@ impl Standing {
         let _ = self.active.model_count();
         let order = self.marks.next_order();
         let mark = started(model, at, start);
+        let before = self.rows.state(model.id());
         self.rows.advance(&mark, order);
+        let after = advanced(before, &mark, order);
+        self.groups.advance(model.group(), before, after);
         hold(
             &mut self.elements,
             model.element(),
@@ -258,7 +270,10 @@ impl Standing {
     {
         let _ = self.active.model_count();
         let order = self.marks.next_order();
+        let before = self.rows.state(model.id());
         self.rows.advance(&mark, order);
+        let after = advanced(before, &mark, order);
+        self.groups.advance(model.group(), before, after);
         release_if(is_last, &mut self.elements, model.element(), model.group());
         self.marks.push(mark);
     }
@@ -283,6 +298,7 @@ impl Standing {
     {
         let commit = commit.clone()?;
         self.rows.reserve(commit.model_count())?;
+        self.groups.reserve(commit.model_count())?;
         elements::reserve(&mut self.elements, &commit)?;
         self.marks.reserve(self.active.model_count())?;
         join_pending(&mut self.rows, &commit);
@@ -302,6 +318,7 @@ impl Standing {
         if let Some(pending) = self.pending.take() {
             leave_active(&mut self.rows, &self.active);
             enter_active(&mut self.rows, &pending);
+            count_groups(&mut self.groups, &self.rows, &pending);
             swap(&mut self.elements, &self.active, &pending);
             self.active = pending;
         }
@@ -368,5 +385,20 @@ fn enter_active(rows: &mut RowTable, commit: &Commit)
 {
     for index in 0..commit.model_count() {
         rows.enter_active(commit.model_at(index).id());
+    }
+}
+
+// The rows of the groups are those of the commit, by the rows of its models.
+fn count_groups(groups: &mut GroupTable, rows: &RowTable, commit: &Commit)
+    requires room { length commit.now.tree.models ≤ groups.old.room }
+    ensures { (marks : List declared.Mark)
+        → FinishesStarted marks
+        → ((id : ℕ) → marked_at rows.now id ≡ row_for commit.now.tree.models [] marks id)
+        → (group : ℕ) → group_at groups.new group ≡ group_row_of commit.now.tree.models marks group }
+{
+    groups.clear();
+    for index in 0..commit.model_count() {
+        let model = commit.model_at(index);
+        groups.join(model, rows.state(model.id()));
     }
 }

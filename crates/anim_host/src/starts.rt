@@ -1,25 +1,24 @@
 //! What starts at a tick.
 
-ghost use Rattle.std.specs.Prelude.{◌≡◌, ◌+◌, ◌≤◌, ◌<◌, ◌∷◌, [], ◌&&◌, not, ℕ, true, false, length, map, option_map, slice_get, Some, IsTrue, IfOk};
-ghost use Rattle.std.specs.List.{list_all, list_any};
+ghost use Rattle.std.specs.Prelude.{◌≡◌, ◌+◌, ◌≤◌, ◌<◌, ◌∷◌, [], ℕ, false, length, map, Option, option_map, slice_get, Some, IsTrue, IfOk};
+ghost use Rattle.std.specs.List.{list_any};
 ghost use Rattle.anim_host.specs.Fits.{AreSettled, MayStartIn};
 ghost use Rattle.keyframe_model.specs.Models.{Spec};
 ghost use Rattle.tree_commit.specs.Follows.{IsAmong};
 ghost use Rattle.anim_host.specs.Ticks.{start_room};
 ghost use Rattle.host_tables.specs.Shapes.{at_places, shape_of};
-ghost use Rattle.anim_host.specs.Standing.{with_new};
+ghost use Rattle.anim_host.specs.Standing.{holds_group, with_new};
 ghost use Rattle.anim_timeline.specs.Timelines.{IsTime};
-ghost use Rattle.tree_commit.specs.Marks.{group_marks, is_group_running, is_ready, may_start, pending_allows, start_mark, start_marks, starts_in};
+ghost use Rattle.tree_commit.specs.Marks.{group_marks, is_group_running, is_ready, start_mark, start_marks, starts_in};
 ghost use Rattle.tree_commit.specs.Tables.{HasAllTimelines, has_timeline};
-ghost use Rattle.tree_commit.specs.Trees.{groups_of, has_group};
+ghost use Rattle.tree_commit.specs.Trees.{Committed, groups_of};
 
 use crate::models::start_at;
 use crate::standing::Standing;
-use anim_names::{ElementId, GroupId};
-use host_tables::{Shape, has_ended, runs, sum};
+use anim_names::GroupId;
+use host_tables::{Shape, sum};
 use keyframe_model::ModelSpec;
 use std::alloc::AllocError;
-use std::sync::Arc;
 use tree_commit::Commit;
 
 /// Starts the groups that are ready, in turn, each over the marks so far.
@@ -81,7 +80,7 @@ fn start_group(
     ensures settled { AreSettled active.now.tree.models standing.new.list.marks }
 {
     standing.vouch();
-    if is_ready(standing, active, shape, next, group) {
+    if is_ready(standing, next, group) {
         start_members(standing, active, shape.places(group), group, tick);
     }
 }
@@ -123,111 +122,23 @@ fn start_one(standing: &mut Standing, active: &Commit, model: &ModelSpec, tick: 
     standing.start(model, tick, start_at(active, model, tick));
 }
 
-// Whether the group may start: it has models in the active commit, none that started, and each of those may start.
-#[tactic(auto, unfolding(tree_commit::specs::Marks::is_ready))]
-fn is_ready(
-    standing: &Standing,
-    active: &Commit,
-    shape: &Shape,
-    next: &Option<Shape>,
-    group: GroupId,
-) -> bool
-    requires shape { shape.now ≡ shape_of active.now.tree.models }
-    requires active { active.now ≡ standing.now.active }
-    requires settled { AreSettled active.now.tree.models standing.now.list.marks }
-    requires next { next.now ≡ option_map (λ commit. shape_of commit.tree.models) standing.now.pending }
-    ensures { result ≡ is_ready active.now.tree standing.now.pending standing.now.list.marks group }
-{
-    is_waiting(standing, active, shape, group)
-        && may_all_start(standing, active, next, shape.places(group))
-}
-
-// Whether the group has models in the active commit, and none that started: it starts as a whole, so that the first
-// model tells.
-fn is_waiting(standing: &Standing, active: &Commit, shape: &Shape, group: GroupId) -> bool
-    requires active { active.now ≡ standing.now.active }
-    requires shape { shape.now ≡ shape_of active.now.tree.models }
-    requires settled { AreSettled active.now.tree.models standing.now.list.marks }
-    ensures { result ≡ (has_group active.now.tree group && not (list_any (starts_in group) standing.now.list.marks)) }
-{
-    standing.vouch();
-    match shape.places(group).first() {
-        None => false,
-        Some(place) => !has_started(standing, active.model_at(*place)),
-    }
-}
-
-// Whether the model, and so its group, has started.
-fn has_started(standing: &Standing, model: &ModelSpec) -> bool
-    requires there { IsAmong model.now standing.now.active.tree.models }
+// Whether the group may start, by its row.
+fn is_ready(standing: &Standing, next: &Option<Shape>, group: GroupId) -> bool
     requires settled { AreSettled standing.now.active.tree.models standing.now.list.marks }
-    ensures { result ≡ list_any (starts_in model.now.group) standing.now.list.marks }
-{
-    standing.vouch();
-    let state = standing.state(model.id());
-    runs(state) || has_ended(state)
-}
-
-// Whether each model at these places may start.
-fn may_all_start(
-    standing: &Standing,
-    active: &Commit,
-    next: &Option<Shape>,
-    places: &[usize],
-) -> bool
-    requires places { (j place : ℕ) → slice_get places.now j ≡ Some place → place < length active.now.tree.models }
     requires next { next.now ≡ option_map (λ commit. shape_of commit.tree.models) standing.now.pending }
-    ensures { result
-        ≡ list_all (may_start active.now.tree standing.now.pending standing.now.list.marks) (at_places active.now.tree.models places.now) }
+    ensures { result ≡ is_ready standing.now.active.tree standing.now.pending standing.now.list.marks group }
 {
-    let mut ready = true;
-    for index in 0..places.len() {
-        ready &= may_start(standing, active, next, active.model_at(places[index]));
-    }
-    ready
+    standing.is_ready(group, holds_group(next, group))
 }
 
-// Whether nothing keeps the model from starting.
-fn may_start(standing: &Standing, active: &Commit, next: &Option<Shape>, model: &ModelSpec) -> bool
-    requires next { next.now ≡ option_map (λ commit. shape_of commit.tree.models) standing.now.pending }
-    ensures { result ≡ may_start active.now.tree standing.now.pending standing.now.list.marks model.now }
-{
-    let (group, element) = (model.group(), model.element());
-    active.has_element(element)
-        && pending_allows(standing.pending(), next, group, element)
-        && !standing.is_blocked_for(group, element, model.property())
-}
-
-// Whether a pending commit that has a model of the group has the element too.
-fn pending_allows(
-    pending: &Option<Arc<Commit>>,
-    next: &Option<Shape>,
-    group: GroupId,
-    element: ElementId,
-) -> bool
-    requires next { next.now ≡ option_map (λ commit. shape_of commit.value.tree.models) pending.now }
-    ensures { result ≡ pending_allows (option_map (λ commit. commit.value) pending.now) group element }
-{
-    match pending {
-        None => true,
-        Some(commit) => allows(commit, next, group, element),
-    }
-}
-
-fn allows(commit: &Commit, next: &Option<Shape>, group: GroupId, element: ElementId) -> bool
-    requires next { next.now ≡ Some (shape_of commit.now.tree.models) }
-    ensures { result ≡ pending_allows (Some commit.now) group element }
+// Whether the pending commit, where there is one, has a model of the group.
+fn holds_group(next: &Option<Shape>, group: GroupId) -> bool
+    ensures { (pending : Option Committed)
+        → next.now ≡ option_map (λ commit. shape_of commit.tree.models) pending
+        → result ≡ holds_group pending group }
 {
     match next {
-        None => true,
-        Some(shape) => !has_group(commit, shape, group) || commit.has_element(element),
+        None => false,
+        Some(shape) => shape.has_group(group),
     }
-}
-
-// Whether the commit of this shape has a model of the group.
-fn has_group(commit: &Commit, shape: &Shape, group: GroupId) -> bool
-    requires shape { shape.now ≡ shape_of commit.now.tree.models }
-    ensures { result ≡ has_group commit.now.tree group }
-{
-    shape.has_group(group)
 }

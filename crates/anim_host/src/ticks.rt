@@ -90,14 +90,13 @@ fn make_marks(
     ensures left { length standing.new.list.marks + length active.now.tree.models ≤ standing.new.list.room }
     ensures settled { AreSettled active.now.tree.models standing.new.list.marks }
 {
-    finish(standing, active, shape, places, tick);
+    finish(standing, active, places, tick);
     start_groups(standing, active, shape, next, tick);
 }
 
 // The models at these places finish.
-fn finish(standing: &mut Standing, active: &Commit, shape: &Shape, places: &[usize], tick: u64)
+fn finish(standing: &mut Standing, active: &Commit, places: &[usize], tick: u64)
     requires active { active.now ≡ standing.old.active }
-    requires shape { shape.now ≡ shape_of active.now.tree.models }
     requires within { AllByRecursion (λ place. place < length active.now.tree.models) places.now }
     requires started { (model : Spec) → IsAmong model (at_places active.now.tree.models places.now)
         → is_started standing.old.list.marks model.id ≡ true }
@@ -108,20 +107,12 @@ fn finish(standing: &mut Standing, active: &Commit, shape: &Shape, places: &[usi
     ensures settled { AreSettled active.now.tree.models standing.new.list.marks }
 {
     for index in 0..places.len() {
-        finish_one(
-            standing,
-            active,
-            shape,
-            active.model_at(places[index]),
-            tick,
-        );
+        finish_one(standing, active.model_at(places[index]), tick);
     }
 }
 
-fn finish_one(standing: &mut Standing, active: &Commit, shape: &Shape, model: &ModelSpec, tick: u64)
-    requires active { active.now ≡ standing.old.active }
-    requires shape { shape.now ≡ shape_of active.now.tree.models }
-    requires there { IsAmong model.now active.now.tree.models }
+fn finish_one(standing: &mut Standing, model: &ModelSpec, tick: u64)
+    requires there { IsAmong model.now standing.old.active.tree.models }
     requires started { is_started standing.old.list.marks model.now.id ≡ true }
     requires room { length standing.old.list.marks < standing.old.list.room }
     ensures { standing.new ≡ with_new standing.old (Finished model.now.id tick ∷ []) }
@@ -130,5 +121,5 @@ fn finish_one(standing: &mut Standing, active: &Commit, shape: &Shape, model: &M
         model: model.id(),
         at: tick,
     };
-    end_model(standing, active, shape, model, mark);
+    end_model(standing, model, mark);
 }

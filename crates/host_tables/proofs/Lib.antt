@@ -6,4 +6,5 @@ pub mod StateLemmas
 pub mod AmongLemmas
 pub mod ShapeLemmas
 pub mod ElementLemmas
+pub mod GroupLemmas
 pub mod MarkedLemmas

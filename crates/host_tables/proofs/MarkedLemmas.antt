@@ -6,14 +6,14 @@ use Rattle.tree_commit.specs.declared.runs.mark.Mark.{Mark}
 use Rattle.tree_commit.specs.declared.runs.mark.Mark.TheVariants.{Started, Finished, Aborted}
 use Rattle.keyframe_effect.specs.declared.state.RunState.{RunState}
 use Rattle.keyframe_effect.specs.declared.state.RunState.TheVariants as state
-use Rattle.keyframe_effect.specs.States.{after_done, is_ended, is_unfinished}
+use Rattle.keyframe_effect.specs.States.{after_done, is_ended, is_unfinished, is_waiting}
 use Rattle.host_tables.specs.declared.row.ModelRow.{ModelRow}
-use Rattle.host_tables.specs.Rows.{advanced_row, done_row, entered, joined, left, marked_row, says_over}
+use Rattle.host_tables.specs.Rows.{advanced_row, done_row, entered, joined, left, marked_row, says_over, state_in}
 use Rattle.host_tables.specs.States.{advanced, as_marked, is_found_over, shown_at}
 
 -- ---- one state
 
-marked-advanced : (s : RunState) (mark : Mark) (order : ℕ) → as_marked (advanced s mark order) ≡ advanced (as_marked s) mark order
+pub marked-advanced : (s : RunState) (mark : Mark) (order : ℕ) → as_marked (advanced s mark order) ≡ advanced (as_marked s) mark order
 marked-advanced state.Waiting (Started model group element property at start) order = refl
 marked-advanced (state.Running begun place) (Started model group element property at start) order = refl
 marked-advanced (state.Done begun place) (Started model group element property at start) order = refl
@@ -40,6 +40,13 @@ marked-runs (state.Running begun place) = refl
 marked-runs (state.Done begun place) = refl
 marked-runs (state.Finished begun place) = refl
 marked-runs state.Aborted = refl
+
+pub marked-waits : (s : RunState) → is_waiting s ≡ is_waiting (as_marked s)
+marked-waits state.Waiting = refl
+marked-waits (state.Running begun place) = refl
+marked-waits (state.Done begun place) = refl
+marked-waits (state.Finished begun place) = refl
+marked-waits state.Aborted = refl
 
 pub marked-ended : (s : RunState) → is_ended s ≡ is_ended (as_marked s)
 marked-ended state.Waiting = refl
@@ -78,6 +85,10 @@ over-advanced state.Aborted (Finished model at) order is = is
 over-advanced s (Aborted model commit) order is = cc
 
 -- ---- one row, as the marks know it
+
+pub state-marked : (row : Option ModelRow) → as_marked (state_in row) ≡ state_in (option_map marked_row row)
+state-marked None = refl
+state-marked (Some row) = refl
 
 pub row-marked-advanced : (row : Option ModelRow) (mark : Mark) (order : ℕ)
     → option_map marked_row (option_map (advanced_row mark order) row) ≡ option_map (advanced_row mark order) (option_map marked_row row)

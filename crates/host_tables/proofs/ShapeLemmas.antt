@@ -211,7 +211,7 @@ group-added groups model group false is =
     list_any-append (λ other. group == other) groups (model.group ∷ [])
     ∙ ap (λ b. list_any (λ other. group == other) groups || b) (or-none (group == model.group))
 
-groups-any : (groups : List ℕ) (models : List Spec) (group : ℕ)
+pub groups-any : (groups : List ℕ) (models : List Spec) (group : ℕ)
     → list_any (λ other. group == other) (fold with_group_of groups models)
     ≡ (list_any (λ other. group == other) groups || list_any (λ model. group == model.group) models)
 groups-any groups [] group = sym (or-none (list_any (λ other. group == other) groups))

@@ -20,6 +20,7 @@ use Rattle.std.specs.Prelude.{unsigned_abs, IfSome}
 use Rattle.anim_timeline.specs.declared.TheConstants.{LAST_TIME}
 use Rattle.std.proofs.lemmas.List.{append-nil}
 use Rattle.host_tables.specs.MarkLists.{StartsAreWithin, mark_if, start_in}
+use Rattle.host_tables.specs.Groups.{is_waiting}
 use Rattle.host_tables.specs.States.{FinishesStarted, advanced, is_among, shown_at, state_from, state_of}
 use Rattle.keyframe_effect.specs.States.{is_unfinished}
 use Rattle.keyframe_effect.specs.States as effect
@@ -226,6 +227,24 @@ unfolding state_of
 state-runs marks id =
     running-parts (is_aborted marks id) (is_ended marks id) (start_of marks id) (abort-ends marks id)
     ∙ ap (λ b. b && not (is_ended marks id)) (start_of-started marks id)
+
+waiting-parts : (aborted ended : Bool) (start : Option Shown) → (aborted ≡ true → ended ≡ true)
+    → (ended ≡ true → aborted ≡ false → is_some start ≡ true)
+    → effect.is_waiting (state_from aborted ended start) ≡ (not (is_some start) && not ended)
+waiting-parts true true None both fits = refl
+waiting-parts true true (Some shown) both fits = refl
+waiting-parts true false start both fits = cc (both refl)
+waiting-parts false true None both fits = cc (fits refl refl)
+waiting-parts false true (Some shown) both fits = refl
+waiting-parts false false None both fits = refl
+waiting-parts false false (Some shown) both fits = refl
+
+pub state-waits : (marks : List Mark) (id : ℕ) → FinishesStarted marks → effect.is_waiting (state_of marks id) ≡ is_waiting marks id
+unfolding state_of
+state-waits marks id fits =
+    waiting-parts (is_aborted marks id) (is_ended marks id) (start_of marks id) (abort-ends marks id)
+    (λ e a. start_of-started marks id ∙ fits id e a)
+    ∙ ap (λ b. not b && not (is_ended marks id)) (start_of-started marks id)
 
 ended-parts : (aborted ended : Bool) (start : Option Shown) → (aborted ≡ true → ended ≡ true)
     → (ended ≡ true → aborted ≡ false → is_some start ≡ true)

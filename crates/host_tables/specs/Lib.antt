@@ -4,3 +4,4 @@ pub mod States
 pub mod Shapes
 pub mod Elements
 pub mod Blocks
+pub mod Groups

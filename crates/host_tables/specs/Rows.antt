@@ -2,6 +2,7 @@
 use Rattle.std.specs.Prelude.{◌≡◌, ℕ, Bool, nat_eq, List, Option, Some, None, option_and_then, option_map, slice_index_or, count_by, is_some, true, false, if◌then◌else◌}
 use Rattle.std.specs.Map.{lookup}
 use Rattle.host_tables.specs.declared.row.ModelRow.{ModelRow}
+use Rattle.keyframe_effect.specs.declared.state.RunState.{RunState}
 use Rattle.keyframe_effect.specs.declared.state.RunState.TheVariants as state
 use Rattle.keyframe_effect.specs.States.{after_done}
 use Rattle.host_tables.specs.States.{advanced, as_marked, is_found_over}
@@ -20,6 +21,11 @@ slot_at slots place = slice_index_or slots place None
 -- the row of a model
 abbrev pub row_at : Rows → ℕ → Option ModelRow
 row_at rows id = option_and_then (slot_at rows.slots) (lookup (nat_eq id) rows.places)
+
+-- how far a model has come by its row; one that has none waits
+abbrev pub state_in : Option ModelRow → RunState
+state_in None = state.Waiting
+state_in (Some row) = row.state
 
 -- how many rows there are
 abbrev pub row_count : Rows → ℕ

@@ -1,18 +1,20 @@
-//! The tables that the host of animations is made of: rows of keyframe models, the groups of a commit, the list of marks,
-//! and what the table of elements is told.
+//! The tables that the host of animations is made of: rows of keyframe models and of groups, the groups of a commit,
+//! the list of marks, and what the table of elements is told.
 //!
-//! Each says what became of it by a call, and memory is taken only where it says so. None of them knows which rows there
-//! should be or which marks come when: that is the host's.
+//! Each says what became of it by a call, and memory is taken only where it says so. None of them knows which rows
+//! there should be or which marks come when: that is the host's.
 #![tactic(auto)]
 
 pub mod elements;
+mod groups;
 mod mark_list;
 mod row;
 mod rows;
 mod shape;
 
+pub use groups::GroupTable;
 pub use mark_list::{MarkList, sum};
-pub use row::{ModelRow, has_ended, runs, shown};
+pub use row::{ModelRow, advanced, has_ended, runs, shown};
 pub use rows::RowTable;
 pub use shape::Shape;
 

@@ -58,7 +58,7 @@ pub fn shown(state: RunState) -> Option<Shown>
 }
 
 /// The state of a model with one more mark about it, which has this index among the marks.
-pub(crate) fn advanced(state: RunState, mark: &Mark, order: u32) -> RunState
+pub fn advanced(state: RunState, mark: &Mark, order: u32) -> RunState
     ensures { result ≡ advanced state mark.now order }
 {
     match *mark {

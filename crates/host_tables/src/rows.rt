@@ -1,5 +1,5 @@
 ghost use Rattle.std.specs.Prelude.{◌≡◌, ◌≢◌, ℕ, ◌+◌, ◌≤◌, ◌<◌, Some, None, IfOk, OnOk, OnErr, nat_eq, is_some, true, IfSome, option_map, option_and_then};
-ghost use Rattle.host_tables.specs.Rows.{advanced_row, done_row, entered, joined, left, row_at, row_count};
+ghost use Rattle.host_tables.specs.Rows.{advanced_row, done_row, entered, joined, left, row_at, row_count, state_in};
 ghost use Rattle.tree_commit.specs.Marks.{model_of};
 
 use crate::mark_list::model_of;
@@ -76,6 +76,16 @@ impl RowTable {
         match self.places.get(&id) {
             None => None,
             Some(key) => self.rows.get(*key).copied(),
+        }
+    }
+
+    /// How far a model has come by its row. One that has none waits.
+    pub fn state(&self, id: ModelId) -> RunState
+        ensures { result ≡ state_in (row_at self.now id) }
+    {
+        match self.row(id) {
+            Some(row) => row.state,
+            None => RunState::Waiting,
         }
     }
 

@@ -68,16 +68,13 @@ one_more Transform true false o true ob false = refl
 one_more Transform true false o false ob false = refl
 
 -- nothing that has started is ready
-once : (x y started there a b c : Bool) → started ≡ true → (x && not started && there && a && b) ≡ (y && not true && c)
-once true true true there a b c is = refl
-once true false true there a b c is = refl
-once false true true there a b c is = refl
-once false false true there a b c is = refl
-once x y false there a b c is = absurd (true≢false (sym is))
+once : (x there a b c : Bool) → ((x && not true) && there && a && b) ≡ (x && not true && c)
+once true there a b c = refl
+once false there a b c = refl
 
 -- before it started, it is ready where there are models and they may start
 before : (some there o t ob tb : Bool)
-    → (some && not false && there && not (o && ob) && not (t && tb)) ≡ (some && not false && may there some o t ob tb)
+    → ((some && not false) && there && not (o && ob) && not (t && tb)) ≡ (some && not false && may there some o t ob tb)
 before true there o t ob tb = refl
 before false there o t ob tb = refl
 
@@ -124,13 +121,16 @@ rows_follow row table pending_holds models has_started test tells agrees = by ha
   where
     by : (b : Bool) → has_started ≡ b → is_ready row table pending_holds ≡ may_all_start test models has_started
     by true is =
-        once (nat_lt 0 row.waiting) (has_some models) (is_some row.started) (is_there table row.element pending_holds)
+        (λ i. (tells.waiting ∙ ap (λ b. has_some models && not b) is) i && is_there table row.element pending_holds
+        && not (row.opacity && is_blocked_for table row.group row.element Opacity)
+        && not (row.transform && is_blocked_for table row.group row.element Transform))
+        ∙ once (has_some models) (is_there table row.element pending_holds)
         (not (row.opacity && is_blocked_for table row.group row.element Opacity))
         (not (row.transform && is_blocked_for table row.group row.element Transform))
-        (list_all test models) (tells.started ∙ is)
+        (list_all test models)
         ∙ (λ i. has_some models && not (sym is i) && list_all test models)
     by false is =
-        (λ i. tells.waiting is i && not ((tells.started ∙ is) i) && is_there table row.element pending_holds
+        (λ i. (tells.waiting ∙ ap (λ b. has_some models && not b) is) i && is_there table row.element pending_holds
         && not (tells.opacity is i && is_blocked_for table row.group row.element Opacity)
         && not (tells.transform is i && is_blocked_for table row.group row.element Transform))
         ∙ before (has_some models) (is_there table row.element pending_holds) (animates Opacity models)

@@ -1,3 +1,4 @@
 pub mod States
+pub mod Groups
 pub mod Ready
 pub mod Rule

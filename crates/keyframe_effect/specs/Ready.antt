@@ -1,5 +1,5 @@
 -- Whether a group may start, by its row and by the table of elements.
-use Rattle.std.specs.Prelude.{ℕ, Bool, false, not, ◌==◌, ◌&&◌, ◌||◌, nat_lt, Option, Some, None, is_some}
+use Rattle.std.specs.Prelude.{ℕ, Bool, false, not, ◌==◌, ◌&&◌, ◌||◌, nat_lt, Option, Some, None}
 use Rattle.anim_names.specs.declared.lane.Tree.TheVariants.{Pending, Active}
 use Rattle.anim_names.specs.declared.property.Property.{Property}
 use Rattle.anim_names.specs.declared.property.Property.TheVariants.{Opacity, Transform}
@@ -20,12 +20,11 @@ abbrev pub is_there : Anims → ℕ → Bool → Bool
 is_there table element pending_holds =
     is_present table Active element && (not pending_holds || is_present table Pending element)
 
--- The group is ready: models of it wait and none has started, its element is in the active tree and, where the pending
--- commit holds a model of the group, in the pending tree too, and no other group blocks a property of its models.
+-- The group is ready: models of it wait, its element is in the active tree and, where the pending commit holds a model
+-- of the group, in the pending tree too, and no other group blocks a property of its models.
 unfoldable pub is_ready : GroupRow → Anims → Bool → Bool
 is_ready row table pending_holds =
     nat_lt 0 row.waiting
-    && not (is_some row.started)
     && is_there table row.element pending_holds
     && not (row.opacity && is_blocked_for table row.group row.element Opacity)
     && not (row.transform && is_blocked_for table row.group row.element Transform)

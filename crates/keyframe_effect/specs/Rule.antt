@@ -1,5 +1,5 @@
 -- Whether a group may start, by its models: the rule that its row stands for.
-use Rattle.std.specs.Prelude.{◌≡◌, Bool, true, false, not, ◌==◌, ◌&&◌, nat_lt, List, is_some}
+use Rattle.std.specs.Prelude.{◌≡◌, Bool, true, false, not, ◌==◌, ◌&&◌, nat_lt, List}
 use Rattle.std.specs.List.{list_any, list_all}
 use Rattle.anim_names.specs.declared.property.Property.{Property}
 use Rattle.anim_names.specs.declared.property.Property.TheVariants.{Opacity, Transform}
@@ -28,13 +28,12 @@ abbrev pub may_all_start : (Spec → Bool) → List Spec → Bool → Bool
 may_all_start may models has_started = has_some models && not has_started && list_all may models
 
 -- The row tells the truth of the group that has these models in the active commit: they are of its group and of its
--- element; it has started where some model of the group has; and before that, models wait where there are any, and the
--- properties are those of the models.
+-- element; models wait where there are any and none of the group has started; and before that, the properties are those
+-- of the models.
 pub record TellsOf (row : GroupRow) (models : List Spec) (has_started : Bool) : Type 0 where
   pub own_group : list_all (λ model. row.group == model.group) models ≡ true
   pub own_element : list_all (λ model. row.element == model.element) models ≡ true
-  pub started : is_some row.started ≡ has_started
-  pub waiting : has_started ≡ false → nat_lt 0 row.waiting ≡ has_some models
+  pub waiting : nat_lt 0 row.waiting ≡ (has_some models && not has_started)
   pub opacity : has_started ≡ false → row.opacity ≡ animates Opacity models
   pub transform : has_started ≡ false → row.transform ≡ animates Transform models
 

@@ -3,6 +3,14 @@ use Rattle.std.specs.Prelude.{Bool, true, false}
 use Rattle.keyframe_effect.specs.declared.state.RunState.{RunState}
 use Rattle.keyframe_effect.specs.declared.state.RunState.TheVariants.{Waiting, Running, Done, Finished, Aborted}
 
+-- it has neither started nor ended
+abbrev pub is_waiting : RunState → Bool
+is_waiting Waiting = true
+is_waiting (Running start order) = false
+is_waiting (Done start order) = false
+is_waiting (Finished start order) = false
+is_waiting Aborted = false
+
 -- it started, and its own iterations are not known to be over
 abbrev pub is_running : RunState → Bool
 is_running Waiting = false

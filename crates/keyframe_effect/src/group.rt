@@ -1,28 +1,77 @@
-ghost use Rattle.std.specs.Prelude.{◌≡◌};
+ghost use Rattle.std.specs.Prelude.{◌≡◌, ◌+◌, ◌≤◌, ◌<◌};
+ghost use Rattle.keyframe_effect.specs.Groups.{CanMove, first_row, moved, moved_count, row_with, one_if};
 ghost use Rattle.keyframe_effect.specs.Ready.{is_blocked_for, is_ready, is_there};
 
+use crate::RunState;
 use anim_names::{ElementId, GroupId, Property, Tree};
 use element_anims::ElementAnims;
+use keyframe_model::ModelSpec;
 
-/// A group with what a tick asks of it, so that no tick looks through its models.
+/// A group of the active commit with what a tick asks of it, so that no tick looks through its models.
 #[derive(Clone, Copy, Debug, PartialEq, Eq)]
 pub struct GroupRow {
     pub group: GroupId,
     /// The element of all its models.
     pub element: ElementId,
-    /// How many of its models in the active commit have not started.
-    pub waiting: u32,
-    /// How many of its models have started and not ended.
-    pub unfinished: u32,
-    /// The start that was recorded as it started, in microseconds of its timeline, which may be negative.
-    pub started: Option<i64>,
-    /// Whether a model of it is of the opacity: before it starts one that waits, and then one that started.
+    /// How many of its models in the active commit have neither started nor ended. A group starts as a whole, so that
+    /// between two steps models wait only where none has started.
+    pub waiting: usize,
+    /// How many of them have started and not ended.
+    pub unfinished: usize,
+    /// Whether one of them is of the opacity.
     pub opacity: bool,
-    /// The same of the transform.
+    /// Whether one of them is of the transform.
     pub transform: bool,
 }
 
 impl GroupRow {
+    /// The row of a group of which this model is the only one, in this state.
+    pub fn of(model: &ModelSpec, state: RunState) -> GroupRow
+        ensures { result ≡ first_row model.now state }
+    {
+        let property = model.property();
+        GroupRow {
+            group: model.group(),
+            element: model.element(),
+            waiting: usize::from(state.is_waiting()),
+            unfinished: usize::from(state.is_unfinished()),
+            opacity: property == Property::Opacity,
+            transform: property == Property::Transform,
+        }
+    }
+
+    /// The row with one more model of the group, in this state.
+    pub fn with(self, model: &ModelSpec, state: RunState) -> GroupRow
+        requires waiting { self.waiting < usize.MAX }
+        requires unfinished { self.unfinished < usize.MAX }
+        ensures { result ≡ row_with model.now state self }
+    {
+        let property = model.property();
+        GroupRow {
+            waiting: self.waiting + usize::from(state.is_waiting()),
+            unfinished: self.unfinished + usize::from(state.is_unfinished()),
+            opacity: self.opacity || property == Property::Opacity,
+            transform: self.transform || property == Property::Transform,
+            ..self
+        }
+    }
+
+    /// The row as a model of the group goes from one state to another.
+    pub fn moved(self, before: RunState, after: RunState) -> GroupRow
+        requires { CanMove usize.MAX before after self }
+        ensures { result ≡ moved before after self }
+    {
+        GroupRow {
+            waiting: moved_count(self.waiting, before.is_waiting(), after.is_waiting()),
+            unfinished: moved_count(
+                self.unfinished,
+                before.is_unfinished(),
+                after.is_unfinished(),
+            ),
+            ..self
+        }
+    }
+
     /// Whether the group may start in this tick, by the table of both trees. `pending_holds` says whether a pending
     /// commit stands and has a model of the group.
     #[tactic(auto, unfolding(crate::specs::Ready::is_ready))]
@@ -30,7 +79,6 @@ impl GroupRow {
         ensures { result ≡ is_ready self.now table.now pending_holds }
     {
         self.waiting > 0
-            && self.started.is_none()
             && self.is_there(table, pending_holds)
             && !(self.opacity && self.is_blocked(table, Property::Opacity))
             && !(self.transform && self.is_blocked(table, Property::Transform))
@@ -52,5 +100,18 @@ impl GroupRow {
             None => false,
             Some(blocker) => self.group != blocker,
         }
+    }
+}
+
+// A count of models that are so, as one of them was so or not and is so or not.
+fn moved_count(count: usize, was: bool, is: bool) -> usize
+    requires had { one_if was ≤ count }
+    requires fits { count + one_if is ≤ usize.MAX + one_if was }
+    ensures { result ≡ moved_count was is count }
+{
+    match (was, is) {
+        (true, false) => count - 1,
+        (false, true) => count + 1,
+        _ => count,
     }
 }

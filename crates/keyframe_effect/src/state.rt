@@ -1,3 +1,6 @@
+ghost use Rattle.std.specs.Prelude.{◌≡◌};
+ghost use Rattle.keyframe_effect.specs.States.{is_unfinished, is_waiting};
+
 /// How far a keyframe model is.
 #[derive(Clone, Copy, Debug, PartialEq, Eq)]
 pub enum RunState {
@@ -12,4 +15,28 @@ pub enum RunState {
     Finished { start: i64, order: u32 },
     /// It was aborted as a commit took the place of another.
     Aborted,
+}
+
+impl RunState {
+    /// Whether the model has neither started nor ended.
+    pub fn is_waiting(self) -> bool
+        ensures { result ≡ is_waiting self }
+    {
+        match self {
+            RunState::Waiting => true,
+            RunState::Running { .. } | RunState::Done { .. } => false,
+            RunState::Finished { .. } | RunState::Aborted => false,
+        }
+    }
+
+    /// Whether the model has started and not ended.
+    pub fn is_unfinished(self) -> bool
+        ensures { result ≡ is_unfinished self }
+    {
+        match self {
+            RunState::Waiting => false,
+            RunState::Running { .. } | RunState::Done { .. } => true,
+            RunState::Finished { .. } | RunState::Aborted => false,
+        }
+    }
 }

@@ -118,7 +118,6 @@ const ROW: GroupRow = GroupRow {
     element: ElementId(3),
     waiting: 1,
     unfinished: 0,
-    started: None,
     opacity: true,
     transform: false,
 };
@@ -128,11 +127,6 @@ fn expect_ready(rt: &impl Abort, table: &ElementAnims) {
     assert!(rt; !ROW.ready(table, true));
     let none_waits = GroupRow { waiting: 0, ..ROW };
     assert!(rt; !none_waits.ready(table, false));
-    let started = GroupRow {
-        started: Some(0),
-        ..ROW
-    };
-    assert!(rt; !started.ready(table, false));
 }
 
 fn block(rt: &impl Abort, table: &mut ElementAnims, property: Property, group: u32) {

@@ -4,7 +4,7 @@ use Rattle.std.proofs.lemmas.Bool.{eq-eqb}
 use Rattle.keyframe_model.specs.Models.{Spec}
 use Rattle.tree_commit.specs.declared.runs.mark.Mark.TheVariants.{Aborted}
 use Rattle.tree_commit.specs.Marks.{is_ended, is_lost, is_started, marks_of_activation}
-use Rattle.tree_commit.specs.Trees.{has_element, has_model}
+use Rattle.tree_commit.specs.Trees.{Committed, has_element, has_model}
 use Rattle.tree_commit.specs.Follows.{IsAmong}
 use Rattle.host_tables.specs.MarkLists.{mark_if}
 use Rattle.anim_host.specs.Standing.{Stood, with_new}
@@ -23,8 +23,9 @@ true-differs a b t f same = cc
 
 pub abort_one-requires-clause-there : goal.abort_one-requires-clause-there
 abort_one-requires-clause-there c =
-    subst (λ (m : Spec). IsAmong m c.args.active.now.tree.models) (sym c.deref.ensures)
-    (found-among c.args.active.now.tree.models c.loop-index.index c.model_at.result.now.value c.model_at.ensures)
+    subst (λ (s : Committed). IsAmong c.deref.result.now s.tree.models) (c.requires.active ∙ sym c.loop-index.invariant.0.active)
+    (subst (λ (m : Spec). IsAmong m c.args.active.now.tree.models) (sym c.deref.ensures)
+    (found-among c.args.active.now.tree.models c.loop-index.index c.model_at.result.now.value c.model_at.ensures))
 
 pub loop-index-preserved : goal.loop-index-preserved
 loop-index-preserved c =

@@ -31,6 +31,8 @@ invariant_of-self c =
     record {
       of_rows = λ id. same id ∙ before.of_rows id;
       over = over-found (row_at old) (row_at new) active.tree marks c.self.inside.last_tick model differ there over others before.over;
+      of_groups = before.of_groups;
+      roomy = before.roomy;
       of_elements = before.of_elements;
       of_blocks = before.of_blocks;
       finishes = before.finishes;

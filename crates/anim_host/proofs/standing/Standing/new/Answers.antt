@@ -5,7 +5,7 @@ use Rattle.host_tables.specs.Blocks.{is_held_by}
 use Rattle.host_tables.specs.MarkLists.{Marked}
 use Rattle.host_tables.specs.Rows.{marked_row, says_over}
 use Rattle.anim_host.proofs.FitLemmas.{fits-nothing}
-use Rattle.anim_host.proofs.StandLemmas.{row-nowhere}
+use Rattle.anim_host.proofs.StandLemmas.{group-nowhere, row-nowhere}
 use Rattle.anim_host.proofs.standing.Standing.new.Goals as goal
 
 pub invariant_of-result : goal.invariant_of-result
@@ -14,6 +14,8 @@ invariant_of-result c =
     rw (none, c.in_ok-empty.ensures) (record {
       of_rows = λ id. ap (option_map marked_row) (c.new-2.ensures.none id) ∙ sym (row-nowhere [] id);
       over = λ id says. let no : false ≡ true = sym (ap says_over (c.new-2.ensures.none id)) ∙ says in cc;
+      of_groups = λ g. c.new-3.ensures g ∙ sym (group-nowhere [] g);
+      roomy = tt;
       of_elements = record { of_active = λ e. c.in_ok-new.ensures.absent Active e; of_pending = λ e. c.in_ok-new.ensures.absent Pending e };
       of_blocks = λ g e p. ap (is_held_by g) (c.in_ok-new.ensures.free e p);
       finishes = λ id ended alive. cc;

@@ -9,6 +9,8 @@ invariant_of-self c =
     record {
       of_rows = before.of_rows;
       over = λ id says. over-later c.self.inside.active.value.tree c.self.inside.marks.marks c.self.inside.last_tick c.args.time id later (before.over id says);
+      of_groups = before.of_groups;
+      roomy = before.roomy;
       of_elements = before.of_elements;
       of_blocks = before.of_blocks;
       finishes = before.finishes;

@@ -1,8 +1,9 @@
-use Rattle.std.proofs.Common.{◌≡◌, ◌≢◌, ℕ, ◌∷◌, [], ◌++◌, length, ap, refl, to_z-of_z, ◌∙◌}
+use Rattle.std.proofs.Common.{◌≡◌, ◌≢◌, ℕ, ◌∷◌, [], ◌++◌, length, ap, refl, to_z-of_z, ◌∙◌, arith}
 use Rattle.std.specs.Prelude.{option_map, ℤ}
 use Rattle.keyframe_model.specs.Models.{property_of}
 use Rattle.tree_commit.specs.declared.runs.mark.Mark.TheVariants.{Started}
 use Rattle.host_tables.specs.MarkLists.{Marked}
+use Rattle.host_tables.specs.Groups.{group_at}
 use Rattle.host_tables.specs.Rows.{advanced_row, marked_at, marked_row, row_at}
 use Rattle.host_tables.specs.States.{models_of}
 use Rattle.anim_host.proofs.BlockLemmas.{free-or-own, start-blocks}
@@ -10,16 +11,35 @@ use Rattle.host_tables.proofs.ElementLemmas.{presence-same}
 use Rattle.anim_host.proofs.FitLemmas.{fits-next, follows-more}
 use Rattle.host_tables.proofs.MarkedLemmas.{row-marked-advanced}
 use Rattle.anim_host.proofs.OverLemmas.{over-next}
-use Rattle.anim_host.proofs.StandLemmas.{advanced-next}
+use Rattle.anim_host.proofs.StandLemmas.{advanced-next, counted-can, counted-next}
 use Rattle.host_tables.proofs.StateLemmas.{finishes-started}
 use Rattle.anim_host.proofs.standing.Standing.start.Goals as goal
 
 pub hold-requires-clause-free : goal.hold-requires-clause-free
 hold-requires-clause-free c =
     let free = rw (← c.self.view_is) at c.requires.free in
-    rw (c.element.ensures, c.property.ensures, c.group.ensures)
+    rw (c.element.ensures, c.property.ensures, c.group-2.ensures)
     (free-or-own c.self.inside.elements c.self.inside.marks.marks c.args.model.now.group c.args.model.now.element (property_of c.args.model.now)
     c.self.invariant.of_blocks free)
+
+pub advance-requires-2 : goal.advance-requires-2
+advance-requires-2 c =
+    let active = c.self.inside.active.value in
+    let pending = option_map (λ commit. commit.value) c.self.inside.pending in
+    let marks = c.self.inside.marks.marks in
+    let model = c.args.model.now in
+    let mark = Started model.id model.group model.element (property_of model) c.args.at c.args.start in
+    let before = c.self.invariant in
+    let is_mark : c.started-mark.result ≡ mark = c.started-mark.ensures ∙ ap (λ (z : ℤ). Started model.id model.group model.element (property_of model) c.args.at z) (to_z-of_z c.ranges.start) in
+    let order = c.next_order-order.ensures in
+    let there = rw (← c.self.view_is) at c.requires.there in
+    let differ = rw c.deref.ensures at c.model_count.ensures.differ in
+    rw c.group.ensures
+    (counted-can (group_at c.self.inside.groups) active.tree.models (models_of pending) (row_at c.self.inside.rows) marks mark model
+    c.state-before.result c.advanced-after.result differ there (refl, refl, refl, refl) before.finishes
+    (finishes-started marks mark before.finishes (λ ends lives. cc)) before.of_rows
+    (rw c.id.ensures.value at c.state-before.ensures) (rw (is_mark, order) at c.advanced-after.ensures) before.of_groups
+    _ (let count = rw c.deref.ensures at c.model_count.ensures.count in omega arith))
 
 pub invariant_of-self : goal.invariant_of-self
 invariant_of-self c =
@@ -49,10 +69,17 @@ invariant_of-self c =
       over =
           over-next (row_at c.self.inside.rows) (row_at c.advance.new.self) active.tree marks mark (length marks) c.self.inside.last_tick
           here others before.over;
+      of_groups =
+          counted-next (group_at c.self.inside.groups) active.tree.models (models_of pending) (row_at c.self.inside.rows) marks mark model
+          c.state-before.result c.advanced-after.result differ there (refl, refl, refl, refl) before.finishes
+          (finishes-started marks mark before.finishes (λ ends lives. cc)) before.of_rows
+          (rw c.id.ensures.value at c.state-before.ensures) (rw (is_mark, order) at c.advanced-after.ensures) before.of_groups
+          (group_at c.advance-2.new.self) (rw c.group.ensures at c.advance-2.ensures.here) (rw c.group.ensures at c.advance-2.ensures.others);
+      roomy = rw c.advance-2.ensures.room before.roomy;
       of_elements = presence-same c.self.inside.elements c.hold.new.table active pending c.hold.ensures.presence before.of_elements;
       of_blocks =
           start-blocks c.self.inside.elements c.hold.new.table marks model.id model.group model.element (property_of model) c.args.at c.args.start
-          before.of_blocks whole alive free (rw (c.element.ensures, c.property.ensures, c.group.ensures) at c.hold.ensures);
+          before.of_blocks whole alive free (rw (c.element.ensures, c.property.ensures, c.group-2.ensures) at c.hold.ensures);
       finishes = finishes-started marks mark before.finishes (λ ends lives. cc);
       fits = fits-next active.tree.models marks mark model differ before.fits there (refl, refl, refl, refl);
       follows = follows-more active.tree pending marks mark model before.follows there (refl, refl, refl, refl);

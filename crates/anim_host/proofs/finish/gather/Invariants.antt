@@ -3,7 +3,7 @@ use Rattle.std.specs.List.{AllByRecursion}
 use Rattle.tree_commit.specs.Marks.{finishing_models}
 use Rattle.anim_host.specs.Ticks.{finishes}
 use Rattle.host_tables.specs.Shapes.{at_places}
-use Rattle.anim_host.proofs.finish.finishing.Given as goal
+use Rattle.anim_host.proofs.finish.gather.Given as goal
 
 abbrev pub invariant-loop-index : goal.invariant-loop-index
 invariant-loop-index l =
