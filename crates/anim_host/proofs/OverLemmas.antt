@@ -1,6 +1,6 @@
 -- Models that are done: they stay done as ticks come, as marks come and as a commit takes over.
-use Rattle.std.proofs.Common.{◌≡◌, ◌≢◌, ℕ, suc, ◌≤◌, Bool, true, false, ◌||◌, List, [], ◌∷◌, ◌++◌, map, Option, Some, None, refl, sym, ap, subst, ◌∙◌, nat_eq, inl, inr}
-use Rattle.std.specs.Prelude.{◌-ℤ◌, slice_get, All, ◌==◌, option_map, IsTrue}
+use Rattle.std.proofs.Common.{◌≡◌, ◌≢◌, ℕ, suc, ◌≤◌, Bool, true, false, ◌||◌, List, [], ◌∷◌, ◌++◌, map, Option, Some, None, refl, sym, ap, ◌∙◌, nat_eq, inl, inr}
+use Rattle.std.specs.Prelude.{◌-ℤ◌, slice_get, ◌==◌, option_map, IsTrue}
 use Rattle.std.specs.List.{IsDistinct}
 use Rattle.std.proofs.lemmas.Bool.Decides.{eqb_tells}
 use Rattle.anim_timeline.specs.Timelines.{timeline_time}
@@ -16,7 +16,7 @@ use Rattle.tree_commit.specs.Tables.{HasAllTimelines, has_timeline}
 use Rattle.tree_commit.specs.Trees.{TreeLists, origin_of}
 use Rattle.tree_commit.proofs.OverLemmas.{over-later as stays-over}
 use Rattle.host_tables.specs.declared.row.ModelRow.{ModelRow}
-use Rattle.host_tables.specs.Rows.{advanced_row, done_row, marked_row, says_over}
+use Rattle.host_tables.specs.Rows.{advanced_row, marked_row, says_over}
 use Rattle.host_tables.specs.States.{row_for}
 use Rattle.host_tables.proofs.AmongLemmas.{all-at}
 use Rattle.host_tables.proofs.MarkedLemmas.{marked-runs, over-runs, row-over-advanced}

@@ -2,19 +2,18 @@
 use Rattle.std.proofs.Common.{◌≡◌, ◌≢◌, ℕ, suc, zero, ◌+◌, ◌≤◌, Bool, true, false, ◌||◌, List, [], ◌∷◌, ◌++◌, length, map, take, filter, cond, Option, Some, None, refl, sym, ap, ◌∙◌, subst, nat_eq, arith, inl, inr}
 use Rattle.std.specs.Prelude.{◌-◌, ◌==◌, ◌&&◌, slice_get, count_by, option_map, IfSome}
 use Rattle.std.specs.List.{IsDistinct, AllByRecursion}
-use Rattle.std.proofs.lemmas.Bool.{eq-eqb, eqb-true}
+use Rattle.std.proofs.lemmas.Bool.{eq-eqb}
 use Rattle.std.proofs.lemmas.Bool.Decides.{eqb_tells}
 use Rattle.std.proofs.lemmas.List.{append-nil}
 use Rattle.std.proofs.lemmas.List.Elements.{filter-append}
 use Rattle.std.proofs.lemmas.List.Sums.{count_by-le-length, sum_by-append, sum_by-cons}
 use Rattle.std.proofs.lemmas.Map.Keys.{IsDistinct-head, IsDistinct-tail}
 use Rattle.std.proofs.lemmas.Option.{none-some, same_Some}
-use Rattle.anim_names.specs.declared.property.Property.{Property}
 use Rattle.anim_names.specs.declared.property.Property.TheVariants.{Opacity, Transform}
 use Rattle.keyframe_model.specs.Models.{Spec, property_of, same_property}
 use Rattle.keyframe_effect.specs.declared.group.GroupRow.{GroupRow}
 use Rattle.keyframe_effect.specs.declared.state.RunState.{RunState}
-use Rattle.keyframe_effect.specs.Groups.{CanMove, first_row, moved, one_if, row_with}
+use Rattle.keyframe_effect.specs.Groups.{CanMove, moved, one_if}
 use Rattle.keyframe_effect.specs.Rule.{animates}
 use Rattle.keyframe_effect.specs.States as effect
 use Rattle.tree_commit.specs.declared.runs.mark.Mark.{Mark}

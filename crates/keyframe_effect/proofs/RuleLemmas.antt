@@ -1,5 +1,5 @@
 -- A group's row that tells the truth follows the rule.
-use Rattle.std.proofs.Common.{◌≡◌, ◌==◌, eqb-true, Bool, true, false, not, ◌&&◌, ◌||◌, nat_lt, List, [], ◌∷◌, filter, cond, is_some, refl, sym, ap, ◌∙◌, true≢false}
+use Rattle.std.proofs.Common.{◌≡◌, ◌==◌, eqb-true, Bool, true, false, not, ◌&&◌, ◌||◌, List, [], ◌∷◌, filter, cond, refl, sym, ap, ◌∙◌, true≢false}
 use Rattle.std.specs.List.{list_any, list_all}
 use Rattle.anim_names.specs.declared.property.Property.{Property}
 use Rattle.anim_names.specs.declared.property.Property.TheVariants.{Opacity, Transform}

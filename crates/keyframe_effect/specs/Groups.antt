@@ -1,6 +1,6 @@
 -- What becomes of a group's row: as the first model of the group is found, as one more is, and as one of them goes from
 -- one state to another.
-use Rattle.std.specs.Prelude.{ℕ, ◌+◌, ◌-◌, ◌≤◌, Bool, true, false, ◌||◌, if◌then◌else◌}
+use Rattle.std.specs.Prelude.{ℕ, ◌+◌, ◌-◌, ◌≤◌, Bool, ◌||◌, if◌then◌else◌}
 use Rattle.anim_names.specs.declared.property.Property.TheVariants.{Opacity, Transform}
 use Rattle.keyframe_model.specs.Models.{Spec, property_of, same_property}
 use Rattle.keyframe_effect.specs.declared.group.GroupRow.{GroupRow}

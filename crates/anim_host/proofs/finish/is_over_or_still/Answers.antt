@@ -1,4 +1,3 @@
-use Rattle.std.proofs.Common.{◌≡◌}
 use Rattle.host_tables.proofs.AmongLemmas.{among-there}
 use Rattle.anim_host.proofs.finish.is_over_or_still.Goals as goal
 
