@@ -181,7 +181,7 @@ fn of_two_groups_on_one_property_the_first_starts_alone(rt: HostRuntime) -> Resu
 }
 
 // A group of two models, and one that waits for it.
-const TWO_GROUPS: &str = "anim 1
+pub const TWO_GROUPS: &str = "anim 1
 main
 timeline 1 0
 element 1 1000000 none

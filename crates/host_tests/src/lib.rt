@@ -13,4 +13,6 @@ mod second_commit;
 #[cfg(test)]
 mod steps;
 #[cfg(test)]
+mod tables;
+#[cfg(test)]
 mod two_commits;

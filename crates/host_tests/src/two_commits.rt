@@ -8,6 +8,7 @@ ghost use Rattle.host_tests.specs.Steps.{OnlyElementsAreNew};
 use crate::frames::{Row, Ticked, Told, expect_news, expect_tick};
 use crate::second_commit::{first_two, push_next};
 use crate::steps::{activate, begin};
+use crate::tables::{Said, expect_said};
 use active_tree::ActiveTree;
 use anim_host::AnimHost;
 use std::alloc::{AllocError, Global};
@@ -56,6 +57,34 @@ fn expect_activation(
     activate(host, active, commit);
     expect_news(rt, host, before, told);
 }
+
+// ---- what is said of element 1 while nothing blocks it
+
+// It is in no commit.
+const NOWHERE: Said = Said {
+    active: false,
+    pending: false,
+    opacity: None,
+    transform: None,
+};
+
+// The active commit alone has it.
+const ACTIVE: Said = Said {
+    active: true,
+    ..NOWHERE
+};
+
+// The pending commit alone has it.
+const PENDING: Said = Said {
+    pending: true,
+    ..NOWHERE
+};
+
+// Both have it.
+const BOTH: Said = Said {
+    pending: true,
+    ..ACTIVE
+};
 
 // ---- an element that comes
 
@@ -110,14 +139,27 @@ fn expect_late_element(
     assert!(rt; first.model_count() <= 4);
     begin(rt, host, active, first)?;
     expect_tick(rt, host, active, Ticked(1000, &[], None))?;
+    expect_said(rt, host, NOWHERE);
     expect_pull(rt, host, active, &second)?;
+    expect_said(rt, host, PENDING);
     expect_activation(rt, host, active, second, &[]);
+    expect_said(rt, host, ACTIVE);
     expect_tick(
         rt,
         host,
         active,
         Ticked(2000, &starts, Some(Row(250_000, Some(5)))),
-    )
+    )?;
+    expect_said(
+        rt,
+        host,
+        Said {
+            opacity: Some(1),
+            transform: Some(1),
+            ..ACTIVE
+        },
+    );
+    Ok(())
 }
 
 // ---- what goes
@@ -151,7 +193,8 @@ fn a_group_waits_for_the_pending_commit_too(rt: HostRuntime) -> Result<(), Fail>
         Ticked(1000, &[], Some(Row(1_000_000, None))),
         Ticked(2000, &[], None),
     ];
-    expect_script(&rt, rt.alloc(), DROPPED_ELEMENT, ticks, &[])
+    let said = [ACTIVE, ACTIVE, NOWHERE, NOWHERE];
+    expect_script(&rt, rt.alloc(), DROPPED_ELEMENT, ticks, &[], said)
 }
 
 // A model goes while it runs.
@@ -183,28 +226,43 @@ fn a_model_that_goes_is_aborted_by_the_activation(rt: HostRuntime) -> Result<(),
         Ticked(1000, &[Told::Started(1, 1, 1000, 1000)], Some(Row(0, None))),
         Ticked(2000, &[], Some(Row(1_000_000, None))),
     ];
+    let blocked = Said {
+        opacity: Some(1),
+        ..BOTH
+    };
+    let said = [BOTH, blocked, ACTIVE, ACTIVE];
     expect_script(
         &rt,
         rt.alloc(),
         DROPPED_MODEL,
         ticks,
         &[Told::Aborted(1, 2)],
+        said,
     )
 }
 
 // The second commit of a script is pulled before the first of these ticks and becomes active behind it, with these
-// news.
+// news. Behind each of these four steps this is said of element 1.
 fn expect_script(
     rt: &impl Abort,
     alloc: Global,
     text: &str,
     ticks: [Ticked; 2],
     told: &[Told],
+    said: [Said; 4],
 ) -> Result<(), Fail> {
     let (first, second) = first_two(rt, alloc, text)?;
     let mut host = AnimHost::new(alloc, 4)?;
     let mut active = ActiveTree::new(alloc)?;
-    expect_change(rt, &mut host, &mut active, (first, second), ticks, told)?;
+    expect_change(
+        rt,
+        &mut host,
+        &mut active,
+        (first, second),
+        ticks,
+        told,
+        said,
+    )?;
     Ok(())
 }
 
@@ -215,6 +273,7 @@ fn expect_change(
     commits: (Arc<Commit>, Arc<Commit>),
     ticks: [Ticked; 2],
     told: &[Told],
+    said: [Said; 4],
 ) -> Result<(), AllocError>
     requires new { host.old ≡ new_hosting 4 }
     requires drawn { active.old ≡ empty_commit }
@@ -224,7 +283,12 @@ fn expect_change(
     assert!(rt; first.model_count() <= 4);
     begin(rt, host, active, first)?;
     expect_pull(rt, host, active, &second)?;
+    expect_said(rt, host, said[0]);
     expect_tick(rt, host, active, ticks[0])?;
+    expect_said(rt, host, said[1]);
     expect_activation(rt, host, active, second, told);
-    expect_tick(rt, host, active, ticks[1])
+    expect_said(rt, host, said[2]);
+    expect_tick(rt, host, active, ticks[1])?;
+    expect_said(rt, host, said[3]);
+    Ok(())
 }
