@@ -15,7 +15,7 @@ use Rattle.tree_commit.specs.Marks.{is_over, is_running, is_started, model_of, s
 use Rattle.tree_commit.specs.Tables.{HasAllTimelines, has_timeline}
 use Rattle.tree_commit.specs.Trees.{TreeLists, origin_of}
 use Rattle.tree_commit.proofs.OverLemmas.{over-later as stays-over}
-use Rattle.host_tables.specs.declared.row.ModelRow.{ModelRow}
+use Rattle.keyframe_effect.specs.declared.model.ModelRow.{ModelRow}
 use Rattle.host_tables.specs.Rows.{advanced_row, marked_row, says_over}
 use Rattle.host_tables.specs.States.{row_for}
 use Rattle.host_tables.proofs.AmongLemmas.{all-at}

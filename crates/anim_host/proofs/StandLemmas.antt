@@ -18,7 +18,7 @@ use Rattle.keyframe_effect.specs.declared.group.GroupRow.{GroupRow}
 use Rattle.keyframe_effect.specs.declared.state.RunState.{RunState}
 use Rattle.host_tables.specs.Groups.{group_row_of, joined_row}
 use Rattle.host_tables.proofs.GroupLemmas.{group-can, group-else, group-here, joined-else, joined-here}
-use Rattle.host_tables.specs.declared.row.ModelRow.{ModelRow}
+use Rattle.keyframe_effect.specs.declared.model.ModelRow.{ModelRow}
 use Rattle.keyframe_effect.specs.declared.state.RunState.TheVariants as state
 use Rattle.host_tables.specs.Rows.{advanced_row, entered, joined, left, marked_row, state_in}
 use Rattle.host_tables.specs.States.{FinishesStarted, advanced, as_marked, is_among, row_for, row_if, state_of}

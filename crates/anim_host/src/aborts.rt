@@ -10,7 +10,6 @@ ghost use Rattle.tree_commit.specs.Trees.{has_model};
 
 use crate::ends::end_model;
 use crate::standing::Standing;
-use host_tables::{has_ended, runs};
 use keyframe_model::ModelSpec;
 use tree_commit::{Commit, Mark};
 
@@ -47,6 +46,7 @@ fn is_lost(standing: &Standing, model: &ModelSpec, new: &Commit) -> bool
     ensures { result ≡ is_lost new.now.tree standing.now.list.marks model.now }
 {
     let state = standing.state(model.id());
-    !has_ended(state)
-        && (!new.has_model(model.id()) || (runs(state) && !new.has_element(model.element())))
+    !state.is_ended()
+        && (!new.has_model(model.id())
+            || (state.is_unfinished() && !new.has_element(model.element())))
 }

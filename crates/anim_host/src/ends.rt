@@ -11,7 +11,6 @@ ghost use Rattle.tree_commit.specs.Marks.{aborts, ends, is_running, is_started, 
 ghost use Rattle.tree_commit.specs.Trees.{members_of};
 
 use crate::standing::Standing;
-use host_tables::runs;
 use keyframe_model::ModelSpec;
 use tree_commit::Mark;
 
@@ -41,7 +40,7 @@ fn others_run(standing: &Standing, model: &ModelSpec) -> bool
     standing.vouch();
     match standing.group_row(model.group()) {
         None => false,
-        Some(row) => more_run(row.unfinished, runs(standing.state(model.id()))),
+        Some(row) => more_run(row.unfinished, standing.state(model.id()).is_unfinished()),
     }
 }
 

@@ -14,7 +14,7 @@ ghost use Rattle.tree_commit.specs.Trees.{groups_of, has_model, members_of};
 use crate::models::is_over;
 use crate::standing::Standing;
 use anim_names::GroupId;
-use host_tables::{Shape, runs};
+use host_tables::Shape;
 use keyframe_effect::RunState;
 use keyframe_model::ModelSpec;
 use tree_commit::{Commit, Shown};
@@ -146,7 +146,7 @@ fn finishes(
     ensures finishes { result ≡ finishes active.now.tree standing.old.list.marks tick model.now }
     ensures same { standing.new ≡ standing.old }
 {
-    runs(standing.state(model.id()))
+    standing.state(model.id()).is_unfinished()
         && are_over(standing, active, shape.places(model.group()), tick)
 }
 

@@ -7,7 +7,7 @@ use Rattle.tree_commit.specs.declared.runs.mark.Mark.TheVariants.{Started, Finis
 use Rattle.keyframe_effect.specs.declared.state.RunState.{RunState}
 use Rattle.keyframe_effect.specs.declared.state.RunState.TheVariants as state
 use Rattle.keyframe_effect.specs.States.{after_done, is_ended, is_unfinished, is_waiting}
-use Rattle.host_tables.specs.declared.row.ModelRow.{ModelRow}
+use Rattle.keyframe_effect.specs.declared.model.ModelRow.{ModelRow}
 use Rattle.host_tables.specs.Rows.{advanced_row, done_row, entered, joined, left, marked_row, says_over, state_in}
 use Rattle.host_tables.specs.States.{advanced, as_marked, is_found_over, shown_at}
 

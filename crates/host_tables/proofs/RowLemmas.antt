@@ -6,7 +6,7 @@ use Rattle.std.specs.Map.{lookup}
 use Rattle.std.proofs.lemmas.Bool.Decides.{eqb_tells}
 use Rattle.std.proofs.lemmas.Option.{none-some}
 use Rattle.std.proofs.lemmas.List.Sums.{sum_by-set}
-use Rattle.host_tables.specs.declared.row.ModelRow.{ModelRow}
+use Rattle.keyframe_effect.specs.declared.model.ModelRow.{ModelRow}
 use Rattle.host_tables.specs.Rows.{PlacesLead, slot_at}
 
 -- a slot that says another model is another slot

@@ -1,7 +1,7 @@
 -- The rows that the host keeps of models.
 use Rattle.std.specs.Prelude.{◌≡◌, ℕ, Bool, nat_eq, List, Option, Some, None, option_and_then, option_map, slice_index_or, count_by, is_some, true, false, if◌then◌else◌}
 use Rattle.std.specs.Map.{lookup}
-use Rattle.host_tables.specs.declared.row.ModelRow.{ModelRow}
+use Rattle.keyframe_effect.specs.declared.model.ModelRow.{ModelRow}
 use Rattle.keyframe_effect.specs.declared.state.RunState.{RunState}
 use Rattle.keyframe_effect.specs.declared.state.RunState.TheVariants as state
 use Rattle.keyframe_effect.specs.States.{after_done}

@@ -7,8 +7,8 @@ use Rattle.tree_commit.specs.declared.runs.mark.Mark.TheVariants.{Started, Finis
 use Rattle.tree_commit.specs.declared.runs.shown.Shown.{Shown}
 use Rattle.tree_commit.specs.Trees.{Committed}
 use Rattle.tree_commit.specs.Marks.{is_aborted, is_ended, is_started, start_of}
-use Rattle.host_tables.specs.declared.row.ModelRow.{ModelRow}
-use Rattle.keyframe_effect.specs.States.{after_finish}
+use Rattle.keyframe_effect.specs.declared.model.ModelRow.{ModelRow}
+use Rattle.keyframe_effect.specs.States.{after_finish, after_start}
 use Rattle.keyframe_effect.specs.declared.state.RunState.{RunState}
 use Rattle.keyframe_effect.specs.declared.state.RunState.TheVariants as state
 
@@ -36,17 +36,9 @@ FinishesStarted marks =
 
 -- ---- what one more mark changes
 
--- a waiting model runs
-abbrev pub started : RunState → ℤ → ℕ → RunState
-started state.Waiting start order = state.Running start order
-started (state.Running begun place) start order = state.Running begun place
-started (state.Done begun place) start order = state.Done begun place
-started (state.Finished begun place) start order = state.Finished begun place
-started state.Aborted start order = state.Aborted
-
 -- the state of a model with one more mark about it, which has this index
 abbrev pub advanced : RunState → Mark → ℕ → RunState
-advanced before (Started model group element property at start) order = started before start order
+advanced before (Started model group element property at start) order = after_start before start order
 advanced before (Finished model at) order = after_finish before
 advanced before (Aborted model commit) order = state.Aborted
 

@@ -14,7 +14,7 @@ mod shape;
 
 pub use groups::GroupTable;
 pub use mark_list::{MarkList, sum};
-pub use row::{ModelRow, advanced, has_ended, runs, shown};
+pub use row::{advanced, shown};
 pub use rows::RowTable;
 pub use shape::Shape;
 

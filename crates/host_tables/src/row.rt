@@ -1,50 +1,13 @@
-ghost use Rattle.std.specs.Prelude.{◌≡◌};
-ghost use Rattle.host_tables.specs.States.{advanced, shown_at, started};
-ghost use Rattle.keyframe_effect.specs.States.{after_done, after_finish, is_ended, is_unfinished};
+//! What marks and frames have to do with the row of a model.
 
-use anim_names::ModelId;
-use keyframe_effect::RunState;
+ghost use Rattle.std.specs.Prelude.{◌≡◌};
+ghost use Rattle.host_tables.specs.Rows.{advanced_row};
+ghost use Rattle.host_tables.specs.States.{advanced, shown_at};
+
+use keyframe_effect::{ModelRow, RunState};
 use tree_commit::{Mark, Shown};
 
-/// What the host keeps of a keyframe model of the active or the pending commit.
-#[derive(Clone, Copy, Debug, PartialEq, Eq)]
-pub struct ModelRow {
-    pub model: ModelId,
-    /// How far the model has come.
-    pub state: RunState,
-    /// Whether the active commit has the model.
-    pub in_active: bool,
-    /// Whether the pending commit has it.
-    pub in_pending: bool,
-}
-
-/// Whether the model started and did not end.
-pub fn runs(state: RunState) -> bool
-    ensures { result ≡ is_unfinished state }
-{
-    match state {
-        RunState::Waiting => false,
-        RunState::Running { .. } => true,
-        RunState::Done { .. } => true,
-        RunState::Finished { .. } => false,
-        RunState::Aborted => false,
-    }
-}
-
-/// Whether the model finished or was aborted.
-pub fn has_ended(state: RunState) -> bool
-    ensures { result ≡ is_ended state }
-{
-    match state {
-        RunState::Waiting => false,
-        RunState::Running { .. } => false,
-        RunState::Done { .. } => false,
-        RunState::Finished { .. } => true,
-        RunState::Aborted => true,
-    }
-}
-
-/// What is shown of the model: nothing before it started and once it was aborted.
+/// What is shown of a model in this state: nothing before it started and once it was aborted.
 pub fn shown(state: RunState) -> Option<Shown>
     ensures { result ≡ shown_at state }
 {
@@ -62,39 +25,21 @@ pub fn advanced(state: RunState, mark: &Mark, order: u32) -> RunState
     ensures { result ≡ advanced state mark.now order }
 {
     match *mark {
-        Mark::Started { start, .. } => started(state, start, order),
-        Mark::Finished { .. } => finished(state),
+        Mark::Started { start, .. } => state.after_start(start, order),
+        Mark::Finished { .. } => state.after_finish(),
         Mark::Aborted { .. } => RunState::Aborted,
     }
 }
 
-// A waiting model runs.
-fn started(state: RunState, start: i64, order: u32) -> RunState
-    ensures { result ≡ started state start order }
+/// The row with one more mark about its model, which has this index among the marks.
+pub(crate) fn advanced_row(row: ModelRow, mark: &Mark, order: u32) -> ModelRow
+    ensures { result ≡ advanced_row mark.now order row }
 {
-    match state {
-        RunState::Waiting => RunState::Running { start, order },
-        other => other,
+    let mut row = row;
+    match *mark {
+        Mark::Started { start, .. } => row.start(start, order),
+        Mark::Finished { .. } => row.finish(),
+        Mark::Aborted { .. } => row.abort(),
     }
-}
-
-/// The iterations of a running model are found over.
-pub(crate) fn done(state: RunState) -> RunState
-    ensures { result ≡ after_done state }
-{
-    match state {
-        RunState::Running { start, order } => RunState::Done { start, order },
-        other => other,
-    }
-}
-
-// A running model is finished.
-fn finished(state: RunState) -> RunState
-    ensures { result ≡ after_finish state }
-{
-    match state {
-        RunState::Running { start, order } => RunState::Finished { start, order },
-        RunState::Done { start, order } => RunState::Finished { start, order },
-        other => other,
-    }
+    row
 }

@@ -3,9 +3,9 @@ ghost use Rattle.host_tables.specs.Rows.{advanced_row, done_row, entered, joined
 ghost use Rattle.tree_commit.specs.Marks.{model_of};
 
 use crate::mark_list::model_of;
-use crate::row::{ModelRow, advanced, done};
+use crate::row::advanced_row;
 use anim_names::ModelId;
-use keyframe_effect::RunState;
+use keyframe_effect::{ModelRow, RunState};
 use slab::Slab;
 use std::alloc::{AllocError, Global};
 use std::collections::HashMap;
@@ -152,10 +152,7 @@ impl RowTable {
         ensures others { (id : ℕ) → id ≢ model_of mark.now → row_at self.new id ≡ row_at self.old id }
     {
         if let Some(row) = self.row(model_of(mark)) {
-            self.set(ModelRow {
-                state: advanced(row.state, mark, order),
-                ..row
-            });
+            self.set(advanced_row(row, mark, order));
         }
     }
 
@@ -164,11 +161,9 @@ impl RowTable {
         ensures here { row_at self.new id ≡ option_map done_row (row_at self.old id) }
         ensures others { (other : ℕ) → other ≢ id → row_at self.new other ≡ row_at self.old other }
     {
-        if let Some(row) = self.row(id) {
-            self.set(ModelRow {
-                state: done(row.state),
-                ..row
-            });
+        if let Some(mut row) = self.row(id) {
+            row.mark_done();
+            self.set(row);
         }
     }
 

@@ -1,6 +1,6 @@
 use super::*;
 use anim_names::ModelId;
-use keyframe_effect::RunState;
+use keyframe_effect::{ModelRow, RunState};
 use std::alloc::AllocError;
 use std::test::Fail;
 

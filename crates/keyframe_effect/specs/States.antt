@@ -1,5 +1,5 @@
 -- How far a keyframe model is, and what becomes of it.
-use Rattle.std.specs.Prelude.{Bool, true, false}
+use Rattle.std.specs.Prelude.{ℕ, ℤ, Bool, true, false}
 use Rattle.keyframe_effect.specs.declared.state.RunState.{RunState}
 use Rattle.keyframe_effect.specs.declared.state.RunState.TheVariants.{Waiting, Running, Done, Finished, Aborted}
 
@@ -34,6 +34,14 @@ is_ended (Running start order) = false
 is_ended (Done start order) = false
 is_ended (Finished start order) = true
 is_ended Aborted = true
+
+-- One that waits runs, from this start with this order; any other is what it was.
+abbrev pub after_start : RunState → ℤ → ℕ → RunState
+after_start Waiting start order = Running start order
+after_start (Running begun place) start order = Running begun place
+after_start (Done begun place) start order = Done begun place
+after_start (Finished begun place) start order = Finished begun place
+after_start Aborted start order = Aborted
 
 -- One that runs is done; any other is what it was.
 abbrev pub after_done : RunState → RunState

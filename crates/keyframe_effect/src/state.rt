@@ -1,5 +1,5 @@
 ghost use Rattle.std.specs.Prelude.{◌≡◌};
-ghost use Rattle.keyframe_effect.specs.States.{is_unfinished, is_waiting};
+ghost use Rattle.keyframe_effect.specs.States.{after_done, after_finish, after_start, is_ended, is_unfinished, is_waiting};
 
 /// How far a keyframe model is.
 #[derive(Clone, Copy, Debug, PartialEq, Eq)]
@@ -37,6 +37,48 @@ impl RunState {
             RunState::Waiting => false,
             RunState::Running { .. } | RunState::Done { .. } => true,
             RunState::Finished { .. } | RunState::Aborted => false,
+        }
+    }
+
+    /// Whether the model finished or was aborted.
+    pub fn is_ended(self) -> bool
+        ensures { result ≡ is_ended self }
+    {
+        match self {
+            RunState::Waiting | RunState::Running { .. } | RunState::Done { .. } => false,
+            RunState::Finished { .. } | RunState::Aborted => true,
+        }
+    }
+
+    /// The state of a model that waits, as it starts; any other stays. Its local time counts from `start`, in
+    /// microseconds of its timeline, and `order` is the place of its start among all marks.
+    pub fn after_start(self, start: i64, order: u32) -> RunState
+        ensures { result ≡ after_start self start order }
+    {
+        match self {
+            RunState::Waiting => RunState::Running { start, order },
+            other => other,
+        }
+    }
+
+    /// The state of a model that runs, as its iterations are found over; any other stays.
+    pub fn after_done(self) -> RunState
+        ensures { result ≡ after_done self }
+    {
+        match self {
+            RunState::Running { start, order } => RunState::Done { start, order },
+            other => other,
+        }
+    }
+
+    /// The state of a model that runs or is done, as its group finishes; any other stays.
+    pub fn after_finish(self) -> RunState
+        ensures { result ≡ after_finish self }
+    {
+        match self {
+            RunState::Running { start, order } => RunState::Finished { start, order },
+            RunState::Done { start, order } => RunState::Finished { start, order },
+            other => other,
         }
     }
 }

@@ -28,7 +28,7 @@ returns-in-Some c =
     let models = c.args.standing.now.active.tree.models in
     let marks = c.args.standing.now.list.marks in
     let model = c.args.model.now in
-    let runs : c.runs.result ≡ is_running marks model.id = c.runs.ensures ∙ c.state.ensures.runs ∙ ap (is_running marks) c.id.ensures.value in
+    let runs : c.is_unfinished.result ≡ is_running marks model.id = c.is_unfinished.ensures ∙ c.state.ensures.runs ∙ ap (is_running marks) c.id.ensures.value in
     c.more_run.ensures
     ∙ ap (λ (b : Bool). nat_lt (one_if b) c.in-Some.row.unfinished) runs
     ∙ others-run models marks model c.in-Some.row c.vouch.ensures.differ c.requires.there

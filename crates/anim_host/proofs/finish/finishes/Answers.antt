@@ -15,14 +15,14 @@ are_over-requires-clause-places c = λ j place found.
     ∙ ap (λ (ps : List ℕ). slice_get ps j) (sym c.places.ensures)
     ∙ found)
 
-pub returns-then-runs-clause-finishes : goal.returns-then-runs-clause-finishes
-returns-then-runs-clause-finishes c =
+pub returns-then-is_unfinished-clause-finishes : goal.returns-then-is_unfinished-clause-finishes
+returns-then-is_unfinished-clause-finishes c =
     let marks = c.args.standing.now.list.marks in
     let models = c.args.active.now.tree.models in
     let group = c.args.model.now.group in
     let passes = λ (m : Spec). is_over c.args.active.now.tree c.args.tick m (start_of marks m.id) in
     let runs = λ (m : Spec). is_running marks m.id in
-    let it_runs : is_running marks c.args.model.now.id ≡ true = ap (is_running marks) (sym c.id.ensures.value) ∙ sym c.state.ensures.runs ∙ sym c.runs.ensures ∙ c.if-runs.true in
+    let it_runs : is_running marks c.args.model.now.id ≡ true = ap (is_running marks) (sym c.id.ensures.value) ∙ sym c.state.ensures.runs ∙ sym c.is_unfinished.ensures ∙ c.if-is_unfinished.true in
     c.are_over.ensures.over
     ∙ ap (λ (ps : List ℕ). list_all passes (filter runs (at_places models ps))) (c.places.ensures ∙ ap (λ (s : List (ℕ × List ℕ)). places_in s c.group.result) c.requires.shape)
     ∙ ap (λ (ms : List Spec). list_all passes (filter runs ms)) (shape-members models c.group.result)

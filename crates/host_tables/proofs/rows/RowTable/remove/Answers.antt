@@ -1,7 +1,7 @@
 use Rattle.std.proofs.Common.{arith, ◌≡◌, Some, nat_eq, ap, ◌∙◌, sym}
 use Rattle.std.specs.Prelude.{option_map}
 use Rattle.slab.specs.Slab.{slab_len}
-use Rattle.host_tables.specs.declared.row.ModelRow.{ModelRow}
+use Rattle.keyframe_effect.specs.declared.model.ModelRow.{ModelRow}
 use Rattle.std.specs.Map.{lookup}
 use Rattle.host_tables.specs.Rows.{Rows, row_at}
 use Rattle.host_tables.proofs.RowLemmas.{room-remove, lead-remove, others-remove}

@@ -1,7 +1,7 @@
 use Rattle.std.proofs.Common.{ap, sym, ◌∙◌, nat_eq}
 use Rattle.std.specs.Prelude.{option_and_then, option_map}
 use Rattle.std.specs.Map.{lookup}
-use Rattle.host_tables.specs.declared.row.ModelRow.{ModelRow}
+use Rattle.keyframe_effect.specs.declared.model.ModelRow.{ModelRow}
 use Rattle.host_tables.specs.Rows.{Rows, row_at, slot_at}
 use Rattle.host_tables.proofs.rows.RowTable.reserve.Goals as goal
 

@@ -1,6 +1,6 @@
 use Rattle.std.proofs.Common.{sym, ◌∙◌, ap}
 use Rattle.std.specs.Prelude.{option_map}
-use Rattle.host_tables.specs.declared.row.ModelRow.{ModelRow}
+use Rattle.keyframe_effect.specs.declared.model.ModelRow.{ModelRow}
 use Rattle.host_tables.proofs.RowLemmas.{own-id}
 use Rattle.host_tables.proofs.rows.RowTable.row.Goals as goal
 

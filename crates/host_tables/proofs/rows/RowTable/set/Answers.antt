@@ -1,7 +1,7 @@
 use Rattle.std.proofs.Common.{arith, ◌≡◌, ◌≢◌, ℕ, Option, Some, None, List, nat_eq, slice_set, ap, ◌∙◌, sym}
 use Rattle.std.specs.Map.{lookup}
 use Rattle.std.proofs.lemmas.List.{get_or-set_other}
-use Rattle.host_tables.specs.declared.row.ModelRow.{ModelRow}
+use Rattle.keyframe_effect.specs.declared.model.ModelRow.{ModelRow}
 use Rattle.host_tables.specs.Rows.{Rows, row_at, slot_at}
 use Rattle.host_tables.proofs.RowLemmas.{count-set, lead-set, others-set, set-here}
 use Rattle.host_tables.proofs.rows.RowTable.set.Goals as goal
