@@ -1,7 +1,8 @@
 //! The names that every layer speaks: which element, model, group or timeline is meant, which lane made a
 //! step, what happened to a model, and what an entry of the lanes' journal says.
 //!
-//! Plain values alone, all `Copy`. A contract sees an id as its number.
+//! Plain values alone, all `Copy`. A contract sees an id as its number. Beside them stand what a script may hold at
+//! most, and the number for 1 in a progress.
 #![tactic(auto)]
 
 pub mod entry;
@@ -9,6 +10,7 @@ pub mod event;
 pub mod id;
 pub mod lane;
 pub mod limit;
+pub mod progress;
 pub mod property;
 
 pub use entry::{Entry, EntryKind};
@@ -16,6 +18,7 @@ pub use event::AnimEvent;
 pub use id::{ElementId, GroupId, ModelId, TimelineId};
 pub use lane::{Lane, Tree};
 pub use limit::LimitName;
+pub use progress::ONE;
 pub use property::Property;
 
 #[cfg(test)]

@@ -2,7 +2,7 @@
 -- there are curves of opacities and of transforms.
 use Rattle.std.specs.Prelude.{◌≡◌, ◌≤◌, All, ℕ, ◌-◌, ◌*◌, ◌/◌, ◌==◌, nat_lt, Bool, true, false, not, ◌&&◌, if◌then◌else◌, ℤ, pos, ◌*ℤ◌, List, [], ◌∷◌, length, Option, Some, None}
 use Rattle.micro_time.specs.declared.TheConstants.{LONGEST_DURATION}
-use Rattle.easing_fixed.specs.declared.TheConstants.{ONE}
+use Rattle.anim_names.specs.declared.progress.TheConstants.{ONE}
 use Rattle.easing_fixed.specs.declared.easing.Easing.{Easing}
 use Rattle.easing_fixed.specs.declared.easing.Easing.TheVariants.{Linear}
 use Rattle.easing_fixed.specs.Easings.{IsEasing, eased}

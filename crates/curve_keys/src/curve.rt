@@ -7,7 +7,8 @@ ghost use Rattle.curve_keys.specs.Curves.{IsKey, value_from, is_rising, is_risin
 ghost use Rattle.micro_time.specs.declared.TheConstants.{LONGEST_DURATION};
 
 use crate::{CurveFault, FEWEST_KEYS, Key, MOST_KEYS};
-use easing_fixed::{Easing, EasingFunction, Evaluator, ONE};
+use anim_names::ONE;
+use easing_fixed::{Easing, EasingFunction, Evaluator};
 use std::alloc::AllocError;
 use std::marker::Model;
 use value_blend::Blend;

@@ -1,7 +1,8 @@
 ghost use Rattle.std.specs.Prelude.{◌≡◌, ◌≤◌, ◌<◌, false, IfOk, IsOk};
 ghost use Rattle.micro_time.specs.declared.TheConstants.{LONGEST_DURATION};
 
-use easing_fixed::{Easing, EasingFunction, Evaluator, ONE};
+use anim_names::ONE;
+use easing_fixed::{Easing, EasingFunction, Evaluator};
 use std::alloc::AllocError;
 use value_blend::Blend;
 

@@ -19,8 +19,5 @@ pub const FEWEST_KEYS: usize = 2;
 /// The most keys of a curve.
 pub const MOST_KEYS: usize = 16;
 
-// One number stands for 1 in an easing and in a blend.
-const _: () = prove!(easing_fixed::ONE == value_blend::ONE);
-
 #[cfg(test)]
 mod tests;

@@ -5,7 +5,8 @@ use Rattle.std.proofs.Math.IntN.{zero-*ℤ}
 use Rattle.std.specs.Int.{int_div_euclid}
 use Rattle.std.proofs.lemmas.Bool.{cases_lt}
 use Rattle.std.proofs.lemmas.Bool.Decides.{nat_tests}
-use Rattle.easing_fixed.specs.declared.TheConstants.{ONE, END}
+use Rattle.anim_names.specs.declared.progress.TheConstants.{ONE}
+use Rattle.easing_fixed.specs.declared.TheConstants.{END}
 use Rattle.easing_fixed.specs.Cubics.{CubicParts, cubic_value, height, across, bound, IsPlace, is_not_past, greatest_from, place}
 use Rattle.easing_fixed.proofs.Rising.{across-rises, across-rises_weakly, across-scaled}
 

@@ -4,7 +4,8 @@ use Rattle.std.specs.Int.{int_div_euclid}
 use Rattle.std.proofs.Math.Nat.{mul-le-mul_left, div-le_of_le-mul}
 use Rattle.std.proofs.lemmas.Bool.Decides.{nat_tests}
 use Rattle.std.proofs.lemmas.Int.{ints, unsigned_abs-mul}
-use Rattle.easing_fixed.specs.declared.TheConstants.{ONE, END, LARGEST_Y}
+use Rattle.anim_names.specs.declared.progress.TheConstants.{ONE}
+use Rattle.easing_fixed.specs.declared.TheConstants.{END, LARGEST_Y}
 use Rattle.easing_fixed.specs.declared.easing.Easing.{Easing}
 use Rattle.easing_fixed.specs.declared.easing.Easing.TheVariants.{Linear, Steps, Cubic}
 use Rattle.easing_fixed.specs.declared.fault.EasingFault.TheVariants.{XOutOfRange, YOutOfRange}

@@ -2,7 +2,8 @@
 use Rattle.std.proofs.Common.{◌≡◌, ℕ, zero, suc, ◌+◌, ◌-◌, ◌*◌, ◌/◌, ◌<◌, ◌≤◌, get_or, ap, ◌∙◌, arith}
 use Rattle.std.proofs.Math.Nat.{mul-le-mul_left}
 use Rattle.easing_fixed.proofs.Rising.{weights_le}
-use Rattle.easing_fixed.specs.declared.TheConstants.{ONE, END}
+use Rattle.anim_names.specs.declared.progress.TheConstants.{ONE}
+use Rattle.easing_fixed.specs.declared.TheConstants.{END}
 use Rattle.easing_fixed.specs.Cubics.{first_weight, second_weight, end_weight, across, bound}
 use Rattle.easing_fixed.specs.Starts.{intervals, stride, starts_from, starts_of}
 

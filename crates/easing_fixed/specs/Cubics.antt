@@ -4,7 +4,8 @@
 -- of them. How far across and how high the curve is at s is in millionths of n * n * n.
 use Rattle.std.specs.Prelude.{◌≡◌, ℕ, zero, suc, ◌+◌, ◌-◌, ◌*◌, ◌^◌, ◌≤◌, ℤ, pos, ◌+ℤ◌, ◌*ℤ◌, int_le, unsigned_abs, Bool, not, ◌&&◌, nat_le, if◌then◌else◌, Option, Some, None}
 use Rattle.std.specs.Int.{int_div_euclid}
-use Rattle.easing_fixed.specs.declared.TheConstants.{ONE, END, LARGEST_Y}
+use Rattle.anim_names.specs.declared.progress.TheConstants.{ONE}
+use Rattle.easing_fixed.specs.declared.TheConstants.{END, LARGEST_Y}
 use Rattle.easing_fixed.specs.declared.fault.EasingFault.{EasingFault}
 use Rattle.easing_fixed.specs.declared.fault.EasingFault.TheVariants.{XOutOfRange, YOutOfRange}
 

@@ -2,7 +2,7 @@
 -- progress asks and what it may answer.
 use Rattle.std.specs.Prelude.{◌≡◌, ℕ, ◌≤◌, ℤ}
 use Rattle.std.proofs.Common.{Bor}
-use Rattle.easing_fixed.specs.declared.TheConstants.{ONE}
+use Rattle.anim_names.specs.declared.progress.TheConstants.{ONE}
 use Rattle.easing_fixed.specs.declared.easing.Easing.{Easing}
 use Rattle.easing_fixed.specs.Easings.{IsEasing, eased}
 

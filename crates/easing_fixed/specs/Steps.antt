@@ -1,6 +1,7 @@
 -- A step function: its parts and their ranges, and its value at a progress.
 use Rattle.std.specs.Prelude.{◌≡◌, ℕ, ◌+◌, ◌-◌, ◌*◌, ◌/◌, min, not, ◌&&◌, nat_le, if◌then◌else◌, Option, Some, None}
-use Rattle.easing_fixed.specs.declared.TheConstants.{ONE, MOST_STEPS}
+use Rattle.anim_names.specs.declared.progress.TheConstants.{ONE}
+use Rattle.easing_fixed.specs.declared.TheConstants.{MOST_INTERVALS}
 use Rattle.easing_fixed.specs.declared.fault.EasingFault.{EasingFault}
 use Rattle.easing_fixed.specs.declared.fault.EasingFault.TheVariants.{BadCount}
 use Rattle.easing_fixed.specs.declared.position.StepPosition.{StepPosition}
@@ -24,7 +25,7 @@ least_count JumpBoth = 1
 
 -- why the parts make no step function
 abbrev pub step_refusal : StepParts → Option EasingFault
-step_refusal s = if not (nat_le (least_count s.position) s.count && nat_le s.count MOST_STEPS) then Some BadCount else None
+step_refusal s = if not (nat_le (least_count s.position) s.count && nat_le s.count MOST_INTERVALS) then Some BadCount else None
 
 -- what may be the parts of a step function
 abbrev pub AreSteps : StepParts → Type 0

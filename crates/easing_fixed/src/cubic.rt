@@ -4,7 +4,8 @@ ghost use Rattle.easing_fixed.specs.Cubics.{cubic_parts, cubic_refusal, IsCubic,
 
 use crate::search::quick_place;
 use crate::start::{START_COUNT, starts};
-use crate::{END, EasingFault, LARGEST_Y, ONE, curve};
+use crate::{END, EasingFault, LARGEST_Y, curve};
+use anim_names::ONE;
 use std::marker::Model;
 
 /// A cubic Bézier curve from (0, 0) to (1, 1) by its two control points, after CSS Easing Functions Level 1.

@@ -5,7 +5,8 @@ ghost use Rattle.easing_fixed.specs.declared.TheConstants.{LARGEST_Y};
 ghost use Rattle.easing_fixed.specs.Cubics.{first_weight, second_weight, end_weight, unit, across, height, place};
 ghost use Rattle.std.specs.Int.{int_div_euclid};
 
-use crate::{END, ONE};
+use crate::END;
+use anim_names::ONE;
 
 /// What 1 of a progress or a value is, in the unit of [`across`] and [`height`].
 pub(crate) const UNIT: u64 = ONE as u64 * ONE as u64 * END as u64;

@@ -4,7 +4,8 @@ ghost use Rattle.easing_fixed.specs.Cubics.{cubic_parts, cubic_refusal};
 ghost use Rattle.easing_fixed.specs.Easings.{IsEasing, eased};
 ghost use Rattle.easing_fixed.specs.Steps.{step_parts, step_refusal};
 
-use crate::{CubicShape, EasingFault, ONE, StepPosition, StepShape};
+use crate::{CubicShape, EasingFault, StepPosition, StepShape};
+use anim_names::ONE;
 
 /// How a progress is bent, after CSS Easing Functions Level 1.
 #[derive(Clone, Copy, Debug, PartialEq, Eq, Hash)]
@@ -18,7 +19,7 @@ pub enum Easing {
 }
 
 impl Easing {
-    /// A step function of 1 to [`crate::MOST_STEPS`] steps, or of 2 at least where it jumps between them alone.
+    /// A step function of 1 to [`crate::MOST_INTERVALS`] intervals, or of 2 at least where it jumps between them alone.
     pub fn steps(count: u32, position: StepPosition) -> Result<Easing, EasingFault>
         ensures refused { result_err result ≡ step_refusal (step_parts count position) }
         ensures parts { IfOk result (λ easing. easing ≡ Easing.Steps (step_parts count position)) }

@@ -4,7 +4,8 @@ ghost use Rattle.easing_fixed.specs.declared.easing.Easing.{Easing};
 ghost use Rattle.easing_fixed.specs.Easings.{eased};
 ghost use Rattle.easing_fixed.specs.Evaluators.{MayEase, Eases};
 
-use crate::{Easing, ONE};
+use crate::Easing;
+use anim_names::ONE;
 use std::marker::Model;
 
 /// A function of an easing and a progress: any `Fn(&Easing, u32) -> i64`.

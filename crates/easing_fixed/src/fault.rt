@@ -3,7 +3,7 @@ use thiserror::Error;
 /// Why numbers make no easing.
 #[derive(Clone, Copy, Debug, PartialEq, Eq, Hash, Error)]
 pub enum EasingFault {
-    /// There are 1 to [`crate::MOST_STEPS`] steps, and at least 2 where nothing jumps at the ends.
+    /// There are 1 to [`crate::MOST_INTERVALS`] intervals, and at least 2 where nothing jumps at the ends.
     #[error("the number of steps is out of range")]
     BadCount,
     /// x1 and x2 are 0 to [`crate::END`].

@@ -2,7 +2,8 @@
 
 ghost use Rattle.std.specs.Prelude.{◌≡◌, ◌↔◌, ℕ, ◌+◌, ◌*◌, ◌<◌, ◌≤◌, pos, unsigned_abs};
 ghost use Rattle.easing_fixed.specs.Cubics.{CubicParts, across, IsPlace, place, cubic_value};
-ghost use Rattle.easing_fixed.specs.declared.TheConstants.{ONE, END};
+ghost use Rattle.anim_names.specs.declared.progress.TheConstants.{ONE};
+ghost use Rattle.easing_fixed.specs.declared.TheConstants.{END};
 
 /// Along a curve, in however many steps, each is farther across than the one before.
 pub fn across_rises()

@@ -1,6 +1,6 @@
 //! Step and cubic Bézier easing in fixed point: exact, in whole numbers, without memory.
 //!
-//! An [`Easing`] takes a progress from 0 to [`ONE`], which stands for 1, and gives a whole number in the same
+//! An [`Easing`] takes a progress from 0 to [`anim_names::ONE`], which stands for 1, and gives a whole number in the same
 //! unit. Its shapes keep their numbers within their ranges. Contracts see a shape as its numbers and cite
 //! `eased`; that the cubic's place is the greatest one is the law of [`laws::place_is_greatest`].
 #![tactic(auto)]
@@ -24,11 +24,8 @@ pub use fault::EasingFault;
 pub use position::StepPosition;
 pub use step::StepShape;
 
-/// The number for 1, in a progress and in what an easing gives: 2^20.
-pub const ONE: u32 = 1 << 20;
-
-/// The most steps of a step function.
-pub const MOST_STEPS: u32 = 1_000_000;
+/// The most intervals of a step function.
+pub const MOST_INTERVALS: u32 = 1_000_000;
 
 /// The number for 1 in the numbers of a control point, which are in millionths. Every curve ends at (END, END), and
 /// no control point is farther across.

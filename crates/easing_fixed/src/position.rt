@@ -15,7 +15,7 @@ pub enum StepPosition {
 }
 
 impl StepPosition {
-    // The fewest steps that there can be.
+    // The fewest intervals that there can be.
     pub(crate) fn least_count(self) -> u32
         ensures { result ≡ least_count self }
     {

@@ -7,9 +7,10 @@ ghost use Rattle.std.specs.Prelude.{◌≡◌, ◌+◌, ◌*◌, ◌/◌, ◌^�
 ghost use Rattle.easing_fixed.specs.Cubics.{across, bound, place};
 ghost use Rattle.easing_fixed.specs.Starts.{intervals, stride, starts_of};
 
+use crate::END;
 use crate::curve::{UNIT, across, ascent};
 use crate::start::{START_COUNT, STRIDE};
-use crate::{END, ONE};
+use anim_names::ONE;
 
 // How many turns aim; those after them halve the bracket.
 const AIMED: u32 = 6;

@@ -2,10 +2,11 @@ ghost use Rattle.std.specs.Prelude.{◌≡◌, ◌+◌, ◌*◌, ◌<◌, ◌≤
 ghost use Rattle.std.specs.Result.{result_err};
 ghost use Rattle.easing_fixed.specs.Steps.{step_parts, step_refusal, AreSteps, jumps, step, step_value};
 
-use crate::{EasingFault, MOST_STEPS, ONE, StepPosition};
+use crate::{EasingFault, MOST_INTERVALS, StepPosition};
+use anim_names::ONE;
 use std::marker::Model;
 
-/// A step function: how many steps, and where it jumps.
+/// A step function: how many intervals it has, and where it jumps.
 #[derive(Clone, Copy, Debug, PartialEq, Eq, Hash)]
 pub struct StepShape {
     count: u32,
@@ -25,12 +26,12 @@ impl Model for StepShape {
 }
 
 impl StepShape {
-    /// Makes a step function of 1 to [`MOST_STEPS`] steps, or of 2 at least where it jumps between them alone.
+    /// Makes a step function of 1 to [`MOST_INTERVALS`] intervals, or of 2 at least where it jumps between them alone.
     pub fn new(count: u32, position: StepPosition) -> Result<StepShape, EasingFault>
         ensures refused { result_err result ≡ step_refusal (step_parts count position) }
         ensures parts { IfOk result (λ shape. shape ≡ step_parts count position) }
     {
-        if count < position.least_count() || count > MOST_STEPS {
+        if count < position.least_count() || count > MOST_INTERVALS {
             return Err(EasingFault::BadCount);
         }
         Ok(StepShape { count, position })
@@ -44,7 +45,7 @@ impl StepShape {
         StepShape { count, position }
     }
 
-    /// How many steps there are.
+    /// How many intervals there are.
     pub fn count(&self) -> u32
         ensures value { result ≡ self.now.count }
 
@@ -75,7 +76,7 @@ impl StepShape {
     fn jumps(&self) -> u32
         ensures value { result ≡ jumps self.now }
         ensures some { 0 < result }
-        ensures size { result ≤ MOST_STEPS + 1 }
+        ensures size { result ≤ MOST_INTERVALS + 1 }
     {
         match self.position {
             StepPosition::JumpStart | StepPosition::JumpEnd => self.count,

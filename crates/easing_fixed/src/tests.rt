@@ -1,6 +1,7 @@
 ghost use Rattle.easing_fixed.specs.Evaluators.{MayEase, Eases};
 
 use super::*;
+use anim_names::ONE;
 use std::process::Abort;
 use std::test::Fail;
 

@@ -14,7 +14,7 @@ use Rattle.tree_commit.specs.Marks.{event_of, model_of}
 use Rattle.tree_commit.specs.Runs.{model_of_event}
 use Rattle.tree_commit.specs.Trees.{Clock, TreeLists, has_model, origin_of}
 use Rattle.run_laws.proofs.AddedModels.{distinct_within}
-use Rattle.run_laws.proofs.Among.{among-map, among-without, any-among, any-cases}
+use Rattle.tree_commit.proofs.Among.{among-map, among-without, any-among, any-cases}
 use Rattle.host_tests.specs.Steps.{GroupsAgree, OnlyElementsAreNew, adds_elements_alone}
 use Rattle.host_tests.proofs.FirstCommits.{ids_of, ids-have, ids-length}
 

@@ -1,7 +1,7 @@
 /// How often the curve is run through.
 #[derive(Clone, Copy, Debug, PartialEq, Eq, Hash)]
 pub enum Iterations {
-    /// So many thousandths of an iteration: 2500 is two and a half, 0 is none.
+    /// A number of iterations, in thousandths: 2500 is two and a half, 0 is none.
     Finite(u32),
     /// Over and over.
     Infinite,

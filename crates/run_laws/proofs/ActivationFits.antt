@@ -10,7 +10,7 @@ use Rattle.tree_commit.specs.Trees.{TreeLists, Committed, has_model, has_element
 use Rattle.tree_commit.specs.Marks.{model_of, starts, ends, starts_in, is_started, is_ended, is_running, is_group_running, is_lost, lost_models, marks_of_activation}
 use Rattle.tree_commit.specs.Follows.{IsAmong}
 use Rattle.run_laws.specs.Ends.{finishes, is_finished}
-use Rattle.run_laws.proofs.Among.{among-append_cases, among-map, among-map_cases, among-filter, among-filter_from, any-among, any-cases, any-none}
+use Rattle.tree_commit.proofs.Among.{among-append_cases, among-map, among-map_cases, among-filter, among-filter_from, any-among, any-cases, any-none}
 use Rattle.run_laws.proofs.Births.{Birth, birth, AreOfOneScript}
 use Rattle.run_laws.proofs.Lines.{FitsBirths, Precedes}
 use Rattle.run_laws.proofs.MarkFacts.{any-more, any-same, apart-filter, AreInOrder, order-append, order-apart, ends-about, blocks-before, finished-mark, finished-from, start-before, still-idle}

@@ -16,7 +16,7 @@ use Rattle.tree_commit.specs.Runs.{Lanes, MainLane, beginning, after_letter, aft
 use Rattle.tree_commit.specs.Follows.{IsAmong}
 use Rattle.run_laws.specs.Growth.{CommitsOnlyGrow, LearntStays}
 use Rattle.run_laws.specs.MainTree.{GoTogether}
-use Rattle.run_laws.proofs.Among.{among-append_left}
+use Rattle.tree_commit.proofs.Among.{among-append_left}
 use Rattle.run_laws.proofs.Births.{Birth, births, AreOfOneScript}
 use Rattle.run_laws.proofs.MainLemmas.{MainFits}
 use Rattle.run_laws.proofs.MainSteps.{main_fits_after}

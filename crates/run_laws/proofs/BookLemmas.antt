@@ -11,7 +11,7 @@ use Rattle.tree_commit.specs.Trees.{TreeLists, Look, Element}
 use Rattle.tree_commit.specs.Edits.{Change, AddElement, RemoveElement, SetOpacity, SetTransform, AddTimeline, AddModel, RemoveModel, Book, is_in, without, with_look, edit_refusal, book_after, tree_after}
 use Rattle.tree_commit.specs.Follows.{IsAmong}
 use Rattle.run_laws.specs.MainTree.{IsWithinLimits}
-use Rattle.run_laws.proofs.Among.{among-append_cases}
+use Rattle.tree_commit.proofs.Among.{among-append_cases}
 use Rattle.run_laws.proofs.Births.{accepted, not_refused}
 use Rattle.run_laws.proofs.Lines.{IsThin, thin_without}
 

@@ -12,7 +12,7 @@ use Rattle.tree_commit.specs.Scripts.{ScriptLists, IsWellFormed, book_of}
 use Rattle.tree_commit.specs.Runs.{Lanes, beginning, after}
 use Rattle.tree_commit.specs.Follows.{IsAmong}
 use Rattle.run_laws.specs.Numbers.{EventsAreFew}
-use Rattle.run_laws.proofs.Among.{among-filter, any-among}
+use Rattle.tree_commit.proofs.Among.{among-filter, any-among}
 use Rattle.run_laws.proofs.EndLaws.{models_end_once}
 use Rattle.run_laws.proofs.FollowLaws.{known_were_added}
 

@@ -14,7 +14,7 @@ use Rattle.tree_commit.specs.Scripts.{ScriptLists, IsWellFormed, book_of}
 use Rattle.tree_commit.specs.Runs.{Lanes, beginning, after}
 use Rattle.tree_commit.specs.Follows.{Follows}
 use Rattle.run_laws.specs.Follows.{PendingFollows, IsKnown, KnownWereAdded}
-use Rattle.run_laws.proofs.Among.{any-cases}
+use Rattle.tree_commit.proofs.Among.{any-cases}
 use Rattle.run_laws.proofs.Births.{Birth, birth, births, AreOfOneScript}
 use Rattle.run_laws.proofs.Lines.{FitsBirths, Precedes}
 use Rattle.run_laws.proofs.MarkFacts.{any-more}

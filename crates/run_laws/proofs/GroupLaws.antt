@@ -17,7 +17,7 @@ use Rattle.run_laws.specs.Steps.{new_marks}
 use Rattle.run_laws.specs.ActiveCommit.{MarkedAreActive}
 use Rattle.run_laws.specs.Ends.{finishes, is_finished}
 use Rattle.run_laws.specs.Groups.{StartsTogether, HasTarget, TargetsPresent, OneBlocker, FinishesTogether}
-use Rattle.run_laws.proofs.Among.{any-among, among-append_cases, any-cases}
+use Rattle.tree_commit.proofs.Among.{any-among, among-append_cases, any-cases}
 use Rattle.run_laws.proofs.MarkFacts.{any-fewer, running-from, starts-about}
 use Rattle.run_laws.proofs.FinishFits.{finish-mark, running-parts}
 use Rattle.run_laws.proofs.ActivationFits.{abort-mark}

@@ -1,6 +1,5 @@
 pub mod ActivationFits
 pub mod AddedModels
-pub mod Among
 pub mod Births
 pub mod BookLaws
 pub mod BookLemmas

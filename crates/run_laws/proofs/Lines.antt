@@ -6,7 +6,7 @@ use Rattle.tree_commit.specs.Trees.{Clock, Committed, empty_commit}
 use Rattle.tree_commit.specs.Tables.{has_timeline}
 use Rattle.tree_commit.specs.Edits.{without}
 use Rattle.tree_commit.specs.Follows.{IsAmong}
-use Rattle.run_laws.proofs.Among.{among-without, among-append_cases}
+use Rattle.tree_commit.proofs.Among.{among-without, among-append_cases}
 use Rattle.run_laws.proofs.Births.{Birth, birth}
 
 -- ---- commits of one line

@@ -12,7 +12,7 @@ use Rattle.tree_commit.specs.Scripts.{are_allowed}
 use Rattle.tree_commit.specs.Runs.{MainLane}
 use Rattle.tree_commit.specs.Follows.{IsAmong}
 use Rattle.run_laws.specs.MainTree.{IsWithinLimits}
-use Rattle.run_laws.proofs.Among.{among-append_cases, any-among}
+use Rattle.tree_commit.proofs.Among.{among-append_cases, any-among}
 use Rattle.run_laws.proofs.Births.{Birth, birth, births, AreOfOneScript, accepted, not_refused}
 use Rattle.run_laws.proofs.Lines.{AreApart, FitsBirths, Precedes, AreOrdered}
 use Rattle.run_laws.proofs.BookLemmas.{BookFits, any-map}

@@ -14,7 +14,7 @@ use Rattle.tree_commit.specs.Scripts.{StepOfMain, EditStep, CommitStep, DrainSte
 use Rattle.tree_commit.specs.Runs.{MainLane, tree_after_hearing, tree_after_verdict, model_of_event, after_drain, unheard_events, main_makes, main_takes}
 use Rattle.tree_commit.specs.Follows.{IsAmong}
 use Rattle.run_laws.specs.MainTree.{IsWithinLimits}
-use Rattle.run_laws.proofs.Among.{among-append_cases}
+use Rattle.tree_commit.proofs.Among.{among-append_cases}
 use Rattle.run_laws.proofs.Births.{Birth, birth, births, births_of, AreOfOneScript, commits-edit}
 use Rattle.run_laws.proofs.Lines.{FitsBirths, Precedes, IsThin, thin_same, thin_thinner, thin_without, fits_thin, precedes_thin, ordered-last}
 use Rattle.run_laws.proofs.BookLemmas.{book_edit, book_thin, within_limits}

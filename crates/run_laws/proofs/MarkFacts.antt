@@ -11,7 +11,7 @@ use Rattle.tree_commit.specs.declared.runs.mark.Mark.TheVariants.{Started, Finis
 use Rattle.tree_commit.specs.Marks.{model_of, starts, ends, starts_in, starts_on, is_ended, is_group_running, blocks}
 use Rattle.tree_commit.specs.Follows.{IsAmong}
 use Rattle.run_laws.specs.Ends.{may_follow, is_finished, is_group_finished}
-use Rattle.run_laws.proofs.Among.{among-append_cases, among-filter, any-among, any-cases, any-none}
+use Rattle.tree_commit.proofs.Among.{among-append_cases, among-filter, any-among, any-cases, any-none}
 use Rattle.run_laws.proofs.Lines.{AreApart}
 
 -- ---- tests over more marks

@@ -11,7 +11,7 @@ use Rattle.tree_commit.specs.Marks.{model_of, starts, starts_in, is_started, is_
 use Rattle.tree_commit.specs.Follows.{IsAmong}
 use Rattle.run_laws.specs.Ends.{is_group_finished}
 use Rattle.run_laws.specs.Groups.{StartsAgree}
-use Rattle.run_laws.proofs.Among.{any-cases}
+use Rattle.tree_commit.proofs.Among.{any-cases}
 use Rattle.run_laws.proofs.Births.{Birth, birth, AreOfOneScript}
 use Rattle.run_laws.proofs.Lines.{FitsBirths}
 use Rattle.run_laws.proofs.MarkFacts.{AreInOrder}

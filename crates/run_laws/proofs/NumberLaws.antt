@@ -25,7 +25,7 @@ use Rattle.tree_commit.specs.Follows.{IsAmong}
 use Rattle.run_laws.specs.Steps.{new_marks}
 use Rattle.run_laws.specs.Shown.{lanes_at}
 use Rattle.run_laws.specs.Numbers.{HasSmallStart, StartsAreSmall, LocalTimesAreSmall}
-use Rattle.run_laws.proofs.Among.{among-append_cases}
+use Rattle.tree_commit.proofs.Among.{among-append_cases}
 use Rattle.run_laws.proofs.Births.{Birth, birth, births, births_of-cases}
 use Rattle.run_laws.proofs.RunFits.{run_fits, active_fits}
 use Rattle.run_laws.proofs.MainSteps.{thin-heard}

@@ -14,7 +14,7 @@ use Rattle.tree_commit.specs.Edits.{Book, new_book}
 use Rattle.tree_commit.specs.Scripts.{ScriptLists, StepOfMain, EditStep, CommitStep, DrainStep, IsWellFormed}
 use Rattle.tree_commit.specs.Runs.{Lanes, MainLane, CompositorLane, beginning, after_letter, after, main_step, main_takes, after_drain, newest_commit, with_pending, after_pull, after_activation, after_tick, compositor_takes, compositor_step}
 use Rattle.tree_commit.specs.Follows.{IsAmong}
-use Rattle.run_laws.proofs.Among.{among-append_left}
+use Rattle.tree_commit.proofs.Among.{among-append_left}
 use Rattle.run_laws.proofs.Births.{Birth, births, AreOfOneScript, births_of_script}
 use Rattle.run_laws.proofs.Lines.{FitsBirths, Precedes, AreOrdered, empty_fits, empty_precedes, ordered-precedes}
 use Rattle.run_laws.proofs.MainLemmas.{MainFits}

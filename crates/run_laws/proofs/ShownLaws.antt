@@ -17,7 +17,7 @@ use Rattle.tree_commit.specs.Runs.{Lanes, MainLane, CompositorLane, beginning, a
 use Rattle.tree_commit.specs.Follows.{IsAmong}
 use Rattle.run_laws.specs.Steps.{new_marks}
 use Rattle.run_laws.specs.Shown.{lanes_at, WasCommitted, WasPulled, WasActivated, ShowsActivated, AllShowActivated, IsSkipped, SkippedIsSilent}
-use Rattle.run_laws.proofs.Among.{among-append_left, among-append_cases}
+use Rattle.tree_commit.proofs.Among.{among-append_left, among-append_cases}
 use Rattle.run_laws.proofs.RunFits.{newest-among}
 use Rattle.run_laws.proofs.BookLaws.{commits_only_grow}
 use Rattle.run_laws.proofs.GroupLaws.{marked_are_active}

@@ -16,7 +16,7 @@ use Rattle.tree_commit.specs.Marks.{model_of, starts, ends, starts_in, starts_on
 use Rattle.tree_commit.specs.Follows.{IsAmong}
 use Rattle.run_laws.specs.Ends.{finishes, is_finished}
 use Rattle.run_laws.specs.Groups.{AreAlike}
-use Rattle.run_laws.proofs.Among.{among-append_cases, among-map, among-map_cases, among-filter, among-filter_from, any-among, any-cases, any-none, all-among}
+use Rattle.tree_commit.proofs.Among.{among-append_cases, among-map, among-map_cases, among-filter, among-filter_from, any-among, any-cases, any-none, all-among}
 use Rattle.run_laws.proofs.Births.{Birth, birth, AreOfOneScript}
 use Rattle.run_laws.proofs.Lines.{FitsBirths}
 use Rattle.run_laws.proofs.MarkFacts.{any-more, any-fewer, any-same, apart-filter, AreInOrder, order-append, order-apart, starts-about, blocks-before, blocks-mark, finished-mark, finished-from, NoStartIn, still-idle}

@@ -14,7 +14,7 @@ use Rattle.tree_commit.specs.Marks.{is_ready, group_marks, start_mark, start_mar
 use Rattle.tree_commit.specs.Runs.{Lanes, CompositorLane, after_letter, after_activation, compositor_takes, compositor_step}
 use Rattle.tree_commit.specs.Follows.{IsAmong}
 use Rattle.run_laws.specs.Steps.{new_marks}
-use Rattle.run_laws.proofs.Among.{among-append_cases}
+use Rattle.tree_commit.proofs.Among.{among-append_cases}
 use Rattle.run_laws.proofs.StartFits.{IsReadyGroup, ready-parts, start_list, start-mark}
 
 -- ---- a step

@@ -11,7 +11,7 @@ use Rattle.tree_commit.specs.Scripts.{ScriptLists, IsWellFormed}
 use Rattle.tree_commit.specs.Runs.{MainLane, beginning, after}
 use Rattle.tree_commit.specs.Follows.{IsAmong}
 use Rattle.run_laws.specs.MainTree.{line_of, IdsNameOneModel, NoneReturns, NoGroupGrows, GroupsAgree, TimelinesStay, IsWithinLimits, MainIsWithinLimits}
-use Rattle.run_laws.proofs.Among.{among-append_cases, any-cases}
+use Rattle.tree_commit.proofs.Among.{among-append_cases, any-cases}
 use Rattle.run_laws.proofs.Births.{Birth, birth, births, AreOfOneScript}
 use Rattle.run_laws.proofs.Lines.{FitsBirths, AreOrdered, ordered-last, ordered-precedes}
 use Rattle.run_laws.proofs.BookLemmas.{within_limits}

@@ -16,7 +16,7 @@ use Rattle.micro_time.specs.declared.fault.TimingFault.{TimingFault}
 use Rattle.micro_time.specs.Timings.{TimingParts, timing_parts, IsTiming, refusal, is_duration, is_offset, are_iterations, is_iteration_start, is_rate}
 use Rattle.value_blend.specs.declared.TheConstants.{LARGEST_NUMBER}
 use Rattle.value_blend.specs.Blends.{IsNumber, is_number}
-use Rattle.easing_fixed.specs.declared.TheConstants.{MOST_STEPS, END, LARGEST_Y}
+use Rattle.easing_fixed.specs.declared.TheConstants.{MOST_INTERVALS, END, LARGEST_Y}
 use Rattle.easing_fixed.specs.declared.fault.EasingFault.{EasingFault}
 use Rattle.easing_fixed.specs.declared.easing.Easing.{Easing}
 use Rattle.easing_fixed.specs.declared.easing.Easing.TheVariants.{Linear, Steps, Cubic}
@@ -225,10 +225,10 @@ plain_cubic : IsPlain (codes "cubic")
 unfolding are_plain
 plain_cubic = plain_text (codes "cubic") refl
 
-few_steps : (s : StepParts) → AreSteps s → s.count ≤ MOST_STEPS
+few_steps : (s : StepParts) → AreSteps s → s.count ≤ MOST_INTERVALS
 few_steps s fits =
-    let a = first_ok (leb (least_count s.position) s.count && leb s.count MOST_STEPS) _ None fits in
-    leb-true s.count MOST_STEPS (both_true (leb (least_count s.position) s.count) (leb s.count MOST_STEPS) a.0).1
+    let a = first_ok (leb (least_count s.position) s.count && leb s.count MOST_INTERVALS) _ None fits in
+    leb-true s.count MOST_INTERVALS (both_true (leb (least_count s.position) s.count) (leb s.count MOST_INTERVALS) a.0).1
 
 steps_parts : (s : StepParts) → AreSteps s → parts (codes "steps" ++ 58 ∷ (decimal s.count ++ 58 ∷ position_text s.position)) ≡ codes "steps" ∷ decimal s.count ∷ position_text s.position ∷ []
 steps_parts s fits =
@@ -240,7 +240,7 @@ steps_parts s fits =
 
 steps_back : (s : StepParts) → AreSteps s → steps_said (codes "steps" ∷ decimal s.count ∷ position_text s.position ∷ []) ≡ Some (Steps s)
 unfolding steps_of
-steps_back s fits = rw (natural_back MOST_STEPS s.count (few_steps s fits) (omega arith), position_back s.position, fits) refl
+steps_back s fits = rw (natural_back MOST_INTERVALS s.count (few_steps s fits) (omega arith), position_back s.position, fits) refl
 
 small_x : (x : ℤ) → is_x x ≡ true → unsigned_abs x < 2 ^ 63
 small_x (pos n) h = let le : n ≤ END = leb-true n END (both_true (int_le (pos 0) (pos n)) (leb n END) h).1 in omega arith

@@ -12,7 +12,7 @@ use Rattle.micro_time.specs.declared.iterations.Iterations.{Iterations}
 use Rattle.micro_time.specs.Timings.{TimingParts, IsTiming, timing_parts, refusal}
 use Rattle.value_blend.specs.declared.TheConstants.{FULL_OPACITY}
 use Rattle.value_blend.specs.Blends.{IsOpacity, IsNumber, is_number, opacity_of}
-use Rattle.easing_fixed.specs.declared.TheConstants.{MOST_STEPS}
+use Rattle.easing_fixed.specs.declared.TheConstants.{MOST_INTERVALS}
 use Rattle.easing_fixed.specs.declared.easing.Easing.{Easing}
 use Rattle.easing_fixed.specs.declared.easing.Easing.TheVariants.{Linear, Steps, Cubic}
 use Rattle.easing_fixed.specs.declared.position.StepPosition.{StepPosition}
@@ -160,7 +160,7 @@ steps_said_fit (a ∷ []) easing h = absurd cc
 steps_said_fit (a ∷ b ∷ []) easing h = absurd cc
 steps_said_fit (name ∷ count ∷ position ∷ []) easing h =
     let read = guarded (bytes_eq name (codes "steps")) _ easing h in
-    let n = bind_some (natural_within 0 MOST_STEPS count) (λ n. option_and_then (steps_of n) (position_said position)) easing read in
+    let n = bind_some (natural_within 0 MOST_INTERVALS count) (λ n. option_and_then (steps_of n) (position_said position)) easing read in
     let p = bind_some (position_said position) (steps_of n.0) easing n.2 in
     steps_fit n.0 p.0 easing p.2
 steps_said_fit (a ∷ b ∷ c ∷ d ∷ more) easing h = absurd cc

@@ -2,7 +2,7 @@
 use Rattle.std.specs.Prelude.{ℕ, ℤ, pos, List, [], ◌∷◌, Option, Some, None, option_and_then, option_map, if◌then◌else◌, codes}
 use Rattle.std.specs.Str.{bytes_eq}
 use Rattle.std.specs.Option.{option_or}
-use Rattle.easing_fixed.specs.declared.TheConstants.{MOST_STEPS}
+use Rattle.easing_fixed.specs.declared.TheConstants.{MOST_INTERVALS}
 use Rattle.easing_fixed.specs.declared.easing.Easing.{Easing}
 use Rattle.easing_fixed.specs.declared.easing.Easing.TheVariants.{Linear, Steps, Cubic}
 use Rattle.easing_fixed.specs.declared.position.StepPosition.{StepPosition}
@@ -34,7 +34,7 @@ steps_of count position = unless (step_refusal (step_parts count position)) (Ste
 abbrev pub steps_said : List (List ℕ) → Option Easing
 steps_said (name ∷ count ∷ position ∷ []) =
     if bytes_eq name (codes "steps") then
-    option_and_then (λ n. option_and_then (steps_of n) (position_said position)) (natural_within 0 MOST_STEPS count) else
+    option_and_then (λ n. option_and_then (steps_of n) (position_said position)) (natural_within 0 MOST_INTERVALS count) else
     None
 steps_said other = None
 

@@ -8,7 +8,7 @@ ghost use Rattle.script_fields.specs.Keywords.{position_said};
 use crate::fields::{is, parts_of};
 use crate::keywords::position_said;
 use crate::numbers::{natural_within, number_said};
-use easing_fixed::{Easing, MOST_STEPS, StepPosition};
+use easing_fixed::{Easing, MOST_INTERVALS, StepPosition};
 use std::alloc::{AllocError, Global};
 
 /// The easing that a field spells: a keyword of CSS, `steps:COUNT:POSITION`, or `cubic:X1:Y1:X2:Y2` with control
@@ -53,9 +53,9 @@ fn steps_said(parts: &[&[u8]]) -> Option<Easing>
 }
 
 fn counted_steps(count: &[u8], position: &[u8]) -> Option<Easing>
-    ensures { result ≡ option_and_then (λ n. option_and_then (said.steps_of n) (position_said position.now)) (natural_within 0 MOST_STEPS count.now) }
+    ensures { result ≡ option_and_then (λ n. option_and_then (said.steps_of n) (position_said position.now)) (natural_within 0 MOST_INTERVALS count.now) }
 {
-    let count = natural_within(count, 0, u64::from(MOST_STEPS))?;
+    let count = natural_within(count, 0, u64::from(MOST_INTERVALS))?;
     let position = position_said(position)?;
     steps_of(count as u32, position)
 }

@@ -2,7 +2,7 @@
 use Rattle.std.proofs.Common.{ℕ, zero, suc, ◌+◌, ◌≤◌, Bool, true, false, if◌then◌else◌, ℤ, List, [], ◌∷◌, map, length, drop, All, arith, int_lt, pos, ◌/◌}
 use Rattle.std.specs.List.{AllByRecursion}
 use Rattle.std.proofs.lemmas.List.{length-map}
-use Rattle.value_blend.specs.declared.TheConstants.{ONE}
+use Rattle.anim_names.specs.declared.progress.TheConstants.{ONE}
 use Rattle.transform_ops.specs.declared.TheConstants.{MOST_OPERATIONS}
 use Rattle.transform_ops.specs.declared.op.TransformOp.{TransformOp}
 use Rattle.transform_ops.specs.Operations.{matches, neutral_of, IsOperation, blend_operations}

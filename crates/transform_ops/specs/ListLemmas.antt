@@ -2,7 +2,7 @@
 -- that it goes to.
 use Rattle.std.proofs.Common.{◌≡◌, Bool, true, false, if◌then◌else◌, pos, List, [], ◌∷◌, map, refl}
 use Rattle.std.specs.List.{AllByRecursion}
-use Rattle.value_blend.specs.declared.TheConstants.{ONE}
+use Rattle.anim_names.specs.declared.progress.TheConstants.{ONE}
 use Rattle.transform_ops.specs.declared.op.TransformOp.{TransformOp}
 use Rattle.transform_ops.specs.Operations.{IsOperation, IsNeutral, matches, neutral_of, blend_operations}
 use Rattle.transform_ops.specs.OperationLemmas.{blend_operations-begin, blend_operations-end, blend_operations-neutral_begin, blend_operations-neutral_end, matches-neutral_left, IsNeutral-neutral}

@@ -1,7 +1,7 @@
 -- Lists of operations: their blend, one by one from the front, and when two lists move alike.
 use Rattle.std.specs.Prelude.{◌≡◌, ℕ, ◌+◌, ◌/◌, ◌≤◌, nat_lt, not, if◌then◌else◌, ℤ, pos, int_lt, List, [], ◌∷◌, map, length, Option, Some, None}
 use Rattle.std.specs.List.{AllByRecursion, list_all}
-use Rattle.value_blend.specs.declared.TheConstants.{ONE}
+use Rattle.anim_names.specs.declared.progress.TheConstants.{ONE}
 use Rattle.transform_ops.specs.declared.TheConstants.{MOST_OPERATIONS}
 use Rattle.transform_ops.specs.declared.fault.ListFault.{ListFault}
 use Rattle.transform_ops.specs.declared.fault.ListFault.TheVariants.{TooMany, OutOfRange}

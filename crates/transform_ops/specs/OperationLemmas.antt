@@ -2,7 +2,7 @@
 use Rattle.std.proofs.Common.{◌≡◌, true, ◌&&◌, ℤ, pos, refl, arith}
 use Rattle.std.proofs.lemmas.Bool.Decides.{Decides-int_eq}
 use Rattle.std.specs.Ordering.{int_eq}
-use Rattle.value_blend.specs.declared.TheConstants.{ONE}
+use Rattle.anim_names.specs.declared.progress.TheConstants.{ONE}
 use Rattle.value_blend.specs.Blends.{IsNumber}
 use Rattle.value_blend.specs.BlendLemmas.{IsNumber-blend_number, blend_number-begin, blend_number-end}
 use Rattle.transform_ops.specs.declared.TheConstants.{SAME_SIZE}

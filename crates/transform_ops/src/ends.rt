@@ -1,7 +1,7 @@
 //! A blend of two lists keeps its ends.
 
 ghost use Rattle.std.specs.Prelude.{List, pos};
-ghost use Rattle.value_blend.specs.declared.TheConstants.{ONE};
+ghost use Rattle.anim_names.specs.declared.progress.TheConstants.{ONE};
 ghost use Rattle.transform_ops.specs.Lists.{IsAlike, IsList, blend_lists};
 ghost use Rattle.transform_ops.specs.declared.op.TransformOp.{TransformOp};
 

@@ -6,9 +6,10 @@ ghost use Rattle.transform_ops.specs.Operations.{IsOperation, is_operation, matc
 ghost use Rattle.transform_ops.specs.Lists.{IsList, list_refusal, match_len, blend_lists};
 
 use crate::{ListFault, MOST_OPERATIONS, TransformOp};
+use anim_names::ONE;
 use std::alloc::{AllocError, Global};
 use std::marker::Model;
-use value_blend::{Blend, ONE};
+use value_blend::Blend;
 
 /// The transform of an element: at most [`MOST_OPERATIONS`] operations, the first of which is applied
 /// last.

@@ -2,7 +2,8 @@
 use Rattle.std.proofs.Common.{◌≡◌, ℕ, suc, ◌+◌, ◌*◌, ℤ, pos, negsuc, ◌-ℤ◌, ◌*ℤ◌, refl, ap, ◌∙◌, arith}
 use Rattle.std.proofs.Math.IntN.{+ℤ_idr, +ℤ_comm, -ℤ-+ℤ_cancel}
 use Rattle.std.proofs.lemmas.Bool.Decides.{nat_tests}
-use Rattle.value_blend.specs.declared.TheConstants.{ONE, LARGEST_NUMBER, FULL_OPACITY}
+use Rattle.anim_names.specs.declared.progress.TheConstants.{ONE}
+use Rattle.value_blend.specs.declared.TheConstants.{LARGEST_NUMBER, FULL_OPACITY}
 use Rattle.value_blend.specs.Fixed.{floor_div, clamp_to, clamp_size}
 use Rattle.value_blend.specs.Blends.{part_way, IsNumber, IsOpacity, blend_number, blend_opacity}
 

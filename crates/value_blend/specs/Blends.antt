@@ -1,7 +1,8 @@
 -- Blends of single numbers. At a progress of 0 a blend is the number that it comes from, and at ONE the number that it
 -- goes to. An easing may overshoot: below 0 and above ONE a blend goes on past its ends, as far as its range allows.
 use Rattle.std.specs.Prelude.{ℕ, ◌≤◌, ℤ, pos, negsuc, ◌+ℤ◌, ◌-ℤ◌, ◌*ℤ◌, unsigned_abs, Bool, nat_le, if◌then◌else◌, Option, Some, None}
-use Rattle.value_blend.specs.declared.TheConstants.{ONE, LARGEST_NUMBER, FULL_OPACITY}
+use Rattle.anim_names.specs.declared.progress.TheConstants.{ONE}
+use Rattle.value_blend.specs.declared.TheConstants.{LARGEST_NUMBER, FULL_OPACITY}
 use Rattle.value_blend.specs.Fixed.{floor_div, clamp_to, clamp_size}
 
 -- the number that lies at a progress of the way from one number to another

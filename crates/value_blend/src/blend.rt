@@ -1,5 +1,6 @@
 ghost use Rattle.std.specs.Prelude.{◌≡◌, ◌≤◌, ℤ, pos, unsigned_abs, Bool, false, IsOk, IfOk};
-ghost use Rattle.value_blend.specs.declared.TheConstants.{ONE, LARGEST_PROGRESS};
+ghost use Rattle.anim_names.specs.declared.progress.TheConstants.{ONE};
+ghost use Rattle.value_blend.specs.declared.TheConstants.{LARGEST_PROGRESS};
 
 use std::alloc::AllocError;
 
@@ -20,7 +21,7 @@ pub trait Blend {
     ghost alike: { Self → Self → Type 0 };
 
     /// The value that lies at a progress of the way from one value to the other. The progress is in units of which
-    /// [`crate::ONE`] is the whole way; below 0 and above it the blend goes on past its ends, as far as it may.
+    /// [`anim_names::ONE`] is the whole way; below 0 and above it the blend goes on past its ends, as far as it may.
     fn blend(from: &Self, to: &Self, progress: i64) -> Result<Self, AllocError>
         requires { unsigned_abs progress ≤ LARGEST_PROGRESS }
         ensures value { IfOk result (λ value. value ≡ blended from.now to.now progress) }

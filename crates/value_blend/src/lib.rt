@@ -1,7 +1,7 @@
 //! What lies between two values: blends of numbers and of opacities, in whole numbers.
 //!
-//! A progress, in units of which [`ONE`] is the whole way, says how far a value has come from one key to the
-//! next. A blend at 0 is the value that it comes from, at [`ONE`] the value that it goes to, and beyond these it
+//! A progress, in units of which [`anim_names::ONE`] is the whole way, says how far a value has come from one key to
+//! the next. A blend at 0 is the value that it comes from, at `ONE` the value that it goes to, and beyond these it
 //! goes on as far as the range of the value allows.
 #![tactic(auto)]
 
@@ -15,10 +15,7 @@ pub use blend::Blend;
 pub use number::blend_number;
 pub use opacity::Opacity;
 
-/// The whole way from one value to the next, in the unit of a progress: 2^20.
-pub const ONE: u32 = 1 << 20;
-
-/// The largest size of a progress: sixteen times [`ONE`], 2^24. An easing leaves the way by less than that.
+/// The largest size of a progress: sixteen times [`anim_names::ONE`], 2^24. An easing leaves the way by less than that.
 pub const LARGEST_PROGRESS: u32 = 1 << 24;
 
 /// The largest size of a number of an operation: 2^40.

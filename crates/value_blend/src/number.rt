@@ -5,7 +5,8 @@ ghost use Rattle.value_blend.specs.declared.TheConstants.{LARGEST_PROGRESS};
 ghost use Rattle.value_blend.specs.Fixed.{floor_div};
 ghost use Rattle.value_blend.specs.Blends.{IsNumber, part_way, blend_number};
 
-use crate::{LARGEST_NUMBER, ONE};
+use crate::LARGEST_NUMBER;
+use anim_names::ONE;
 
 // The largest number of an operation.
 const LARGEST: i64 = LARGEST_NUMBER as i64;

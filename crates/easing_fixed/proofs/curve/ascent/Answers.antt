@@ -1,5 +1,6 @@
 use Rattle.std.proofs.Common.{◌≡◌, ℕ, ◌+◌, ◌-◌, ◌*◌, arith}
-use Rattle.easing_fixed.specs.declared.TheConstants.{ONE, END}
+use Rattle.anim_names.specs.declared.progress.TheConstants.{ONE}
+use Rattle.easing_fixed.specs.declared.TheConstants.{END}
 use Rattle.easing_fixed.proofs.curve.ascent.Goals as goal
 
 weights-with : (x1 x2 u s : ℕ) →

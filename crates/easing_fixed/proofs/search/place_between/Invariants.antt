@@ -1,5 +1,5 @@
 use Rattle.std.proofs.Common.{◌-◌, ◌<◌, ◌≤◌}
-use Rattle.easing_fixed.specs.declared.TheConstants.{ONE}
+use Rattle.anim_names.specs.declared.progress.TheConstants.{ONE}
 use Rattle.easing_fixed.specs.Cubics.{across, bound}
 use Rattle.easing_fixed.proofs.search.place_between.Given as goal
 

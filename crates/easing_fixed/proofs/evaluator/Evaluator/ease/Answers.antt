@@ -1,6 +1,6 @@
 use Rattle.std.proofs.Common.{◌≡◌, ◌*◌, ◌≤◌, unsigned_abs, arith}
 use Rattle.std.proofs.lemmas.Int.{ints}
-use Rattle.easing_fixed.specs.declared.TheConstants.{ONE}
+use Rattle.anim_names.specs.declared.progress.TheConstants.{ONE}
 use Rattle.easing_fixed.specs.Easings.{eased}
 use Rattle.easing_fixed.proofs.Sizes.{eased-size}
 use Rattle.easing_fixed.proofs.evaluator.Evaluator.ease.Goals as goal

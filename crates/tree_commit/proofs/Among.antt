@@ -1,7 +1,11 @@
 -- Elements of lists, and what tests, maps and filters make of them.
-use Rattle.std.proofs.Common.{◌≡◌, Bool, true, false, cond, List, [], ◌∷◌, ◌++◌, map, filter, refl, sym, ap, ◌∙◌, ◌⊎◌, inl, inr}
-use Rattle.std.specs.List.{list_any, list_all}
-use Rattle.std.proofs.lemmas.Bool.{false≢true, or_left, or_right, or_cases, and_parts}
+use Rattle.std.proofs.Common.{◌≡◌, ℕ, zero, suc, ◌<◌, length, slice_index_or, arith, nat_eq, Bool, true, false, cond, List, [], ◌∷◌, ◌++◌, map, filter, Some, refl, sym, ap, subst, ◌∙◌, ◌⊎◌, inl, inr}
+use Rattle.std.specs.Prelude.{◌==◌, All, slice_get}
+use Rattle.std.specs.List.{AllByRecursion, IsDistinct, list_any, list_all}
+use Rattle.std.proofs.lemmas.Bool.{false≢true, eq-eqb, or_left, or_right, or_cases, and_parts}
+use Rattle.std.proofs.lemmas.List.Elements.{All-head, All-tail}
+use Rattle.std.proofs.lemmas.Option.{get_or_from_slice_get, none-some, same_Some, slice_get_within}
+use Rattle.keyframe_model.specs.Models.{Spec}
 use Rattle.tree_commit.specs.Edits.{without}
 use Rattle.tree_commit.specs.Follows.{IsAmong}
 
@@ -22,6 +26,16 @@ among-append_cases {A} x (y ∷ xs) ys (inr h) = go (among-append_cases x xs ys 
     go : IsAmong x xs ⊎ IsAmong x ys → IsAmong x (y ∷ xs) ⊎ IsAmong x ys
     go (inl l) = inl (inr l)
     go (inr r) = inr r
+
+pub among-one_more : {A : Type 0} (x : A) (xs : List A) (y : A) → IsAmong x (xs ++ y ∷ []) → IsAmong x xs ⊎ (x ≡ y)
+among-one_more x [] y (inl e) = inr e
+among-one_more x [] y (inr h) = absurd h
+among-one_more x (z ∷ xs) y (inl e) = inl (inl e)
+among-one_more {A} x (z ∷ xs) y (inr h) = go (among-one_more x xs y h)
+  where
+    go : IsAmong x xs ⊎ (x ≡ y) → IsAmong x (z ∷ xs) ⊎ (x ≡ y)
+    go (inl l) = inl (inr l)
+    go (inr e) = inr e
 
 -- the last of a list
 pub among-last : {A : Type 0} (x : A) (xs : List A) → IsAmong x (xs ++ x ∷ [])
@@ -83,6 +97,54 @@ pub all-among : {A : Type 0} (p : A → Bool) (x : A) (xs : List A) → list_all
 all-among p x [] all h = absurd h
 all-among p x (y ∷ xs) all (inl e) = ap p e ∙ (and_parts (p y) (list_all p xs) all).0
 all-among p x (y ∷ xs) all (inr h) = all-among p x xs (and_parts (p y) (list_all p xs) all).1 h
+
+-- ---- what is true of each
+
+pub each-among : {A : Type 0} (P : A → Type 0) (x : A) (xs : List A) → All P xs → IsAmong x xs → P x
+each-among P x [] all h = absurd h
+each-among P x (y ∷ xs) all (inl e) = subst P (sym e) (All-head P y xs all)
+each-among P x (y ∷ xs) all (inr h) = each-among P x xs (All-tail P y xs all) h
+
+-- and of the one at an index
+pub each-found : {A : Type 0} (P : A → Type 0) (x : A) (xs : List A) (i : ℕ) → All P xs → slice_get xs i ≡ Some x → P x
+each-found P x xs i all found = subst P (get_or_from_slice_get xs i x x found) (all i x (slice_get_within xs i x found))
+
+pub among-found : {A : Type 0} (x : A) (xs : List A) (i : ℕ) → slice_get xs i ≡ Some x → IsAmong x xs
+among-found x [] i found = absurd (none-some x found)
+among-found x (y ∷ xs) zero found = inl (sym (same_Some y x found))
+among-found x (y ∷ xs) (suc i) found = inr (among-found x xs i found)
+
+pub all-are-among : {A : Type 0} (xs : List A) → All (λ x. IsAmong x xs) xs
+all-are-among xs = in-front xs
+  where
+    in-front : {A : Type 0} (xs : List A) (i : ℕ) (d : A) → i < length xs → IsAmong (slice_index_or xs i d) xs
+    in-front [] i d within = absurd (omega arith)
+    in-front (x ∷ xs) zero d within = inl refl
+    in-front (x ∷ xs) (suc i) d within = inr (in-front xs i d (omega arith))
+
+-- ---- models by their ids
+
+pub among-has : (model : Spec) (models : List Spec) → IsAmong model models → list_any (λ (m : Spec). model.id == m.id) models ≡ true
+among-has model models h = any-among (λ (m : Spec). model.id == m.id) model models h (eq-eqb model.id model.id refl)
+
+-- a model among those behind has another id
+other-id : (id : ℕ) (model : Spec) (models : List Spec) → AllByRecursion (λ other. nat_eq id other ≡ false) (map (λ (m : Spec). m.id) models)
+    → IsAmong model models → nat_eq id model.id ≡ false
+other-id id model [] all h = absurd h
+other-id id model (x ∷ models) all (inl e) = ap (λ (m : Spec). nat_eq id m.id) e ∙ all.0
+other-id id model (x ∷ models) all (inr h) = other-id id model models all.1 h
+
+-- two models of one id are one
+pub one-model : (models : List Spec) (model twin : Spec) → IsDistinct nat_eq (map (λ (m : Spec). m.id) models)
+    → IsAmong model models → IsAmong twin models → model.id ≡ twin.id → model ≡ twin
+unfolding IsDistinct
+one-model [] model twin apart a b same = absurd a
+one-model (x ∷ models) model twin apart (inl e) (inl f) same = e ∙ sym f
+one-model (x ∷ models) model twin apart (inl e) (inr b) same =
+    absurd (false≢true (sym (other-id x.id twin models apart.0 b) ∙ eq-eqb x.id twin.id (sym (ap (λ (m : Spec). m.id) e) ∙ same)))
+one-model (x ∷ models) model twin apart (inr a) (inl f) same =
+    absurd (false≢true (sym (other-id x.id model models apart.0 a) ∙ eq-eqb x.id model.id (sym (ap (λ (m : Spec). m.id) f) ∙ sym same)))
+one-model (x ∷ models) model twin apart (inr a) (inr b) same = one-model models model twin apart.1 a b same
 
 -- ---- without the first that passes
 
