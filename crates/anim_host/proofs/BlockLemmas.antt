@@ -13,10 +13,11 @@ use Rattle.tree_commit.specs.declared.runs.mark.Mark.{Mark}
 use Rattle.tree_commit.specs.declared.runs.mark.Mark.TheVariants.{Started, Finished, Aborted}
 use Rattle.tree_commit.specs.Follows.{IsAmong}
 use Rattle.tree_commit.specs.Marks.{blocks, ends, is_blocked_for, is_ended, is_group_running, is_running, is_started, model_of, started_group, starts, starts_in, starts_on}
+use Rattle.tree_commit.proofs.Among.{among-append_left, among-filter, among-filter_from, among-last, among-one_more, any-among, any-cases}
 use Rattle.anim_host.specs.Fits.{AgreesWith, IsOf, IsThereIfRunning, MarksFit}
 use Rattle.host_tables.specs.Blocks.{BlocksStand, IsReleased, is_held_by}
 use Rattle.host_tables.specs.States.{is_among}
-use Rattle.anim_host.proofs.FitLemmas.{among-append, any-found, any-true, both-ways, ended-before}
+use Rattle.anim_host.proofs.FitLemmas.{both-ways, ended-before}
 use Rattle.host_tables.proofs.ElementLemmas.{apart-test, eq-flip}
 use Rattle.host_tables.proofs.StateLemmas.{ended-more, one_any, or_none}
 
@@ -53,13 +54,13 @@ and-implied false false so = refl
 pub group-runs : (marks : List Mark) (group : ℕ) (mark : Mark) → IsAmong mark marks → starts_in group mark ≡ true
     → is_ended marks (model_of mark) ≡ false → is_group_running marks group ≡ true
 group-runs marks group mark among starts alive =
-    any-true (λ (k : Mark). starts_in group k && not (is_ended marks (model_of k))) marks mark among
+    any-among (λ (k : Mark). starts_in group k && not (is_ended marks (model_of k))) mark marks among
     (and-both (starts_in group mark) (not (is_ended marks (model_of mark))) starts (from-false (is_ended marks (model_of mark)) alive))
 
 pub group-runs-by : (marks : List Mark) (group : ℕ) → is_group_running marks group ≡ true
     → (mark : Mark) × IsAmong mark marks × (starts_in group mark ≡ true) × (is_ended marks (model_of mark) ≡ false)
 group-runs-by marks group is =
-    let found = any-found (λ (k : Mark). starts_in group k && not (is_ended marks (model_of k))) marks is in (
+    let found = any-cases (λ (k : Mark). starts_in group k && not (is_ended marks (model_of k))) marks is in (
       found.0,
       found.1,
       and-first (starts_in group found.0) (not (is_ended marks (model_of found.0))) found.2,
@@ -70,7 +71,7 @@ group-runs-by marks group is =
 pub running-starts : (marks : List Mark) (group : ℕ) → is_group_running marks group ≡ true → list_any (starts_in group) marks ≡ true
 running-starts marks group is =
     let by = group-runs-by marks group is in
-    any-true (starts_in group) marks by.0 by.1 by.2
+    any-among (starts_in group) by.0 marks by.1 by.2
 
 agree-group : (mark : Mark) (model : Spec) (group : ℕ) → AgreesWith mark model → starts_in group mark ≡ true → model_of mark ≡ model.id → group ≡ model.group
 agree-group (Started id own element property at start) model group agrees is same = eqb-true group own is ∙ agrees.0 same
@@ -100,15 +101,7 @@ pub start-runs : (marks : List Mark) (id group element : ℕ) (property : Proper
     → is_group_running (marks ++ Started id group element property at start ∷ []) group ≡ true
 start-runs marks id group element property at start alive =
     group-runs (marks ++ Started id group element property at start ∷ []) group (Started id group element property at start)
-    (last marks (Started id group element property at start)) (eq-eqb group group refl) (alive-same marks id group element property at start id ∙ alive)
-  where
-    last : (ms : List Mark) (m : Mark) → IsAmong m (ms ++ m ∷ [])
-    last [] m = inl refl
-    last (x ∷ ms) m = inr (last ms m)
-
-pub among-more : (marks : List Mark) (mark last : Mark) → IsAmong mark marks → IsAmong mark (marks ++ last ∷ [])
-among-more [] mark last among = absurd among
-among-more (m ∷ marks) mark last among = elim among [ inl same ↦ inl same | inr rest ↦ inr (among-more marks mark last rest) ]
+    (among-last (Started id group element property at start) marks) (eq-eqb group group refl) (alive-same marks id group element property at start id ∙ alive)
 
 -- another group runs where it did
 start-elsewhere : (marks : List Mark) (id group element : ℕ) (property : Property) (at : ℕ) (start : ℤ) (other : ℕ) → other ≢ group
@@ -118,13 +111,13 @@ start-elsewhere marks id group element property at start other differ =
     both-ways (is_group_running (marks ++ mark ∷ []) other) (is_group_running marks other)
     (λ is.
     let by = group-runs-by (marks ++ mark ∷ []) other is in
-    elim (among-append marks mark by.0 by.1) [
+    elim (among-one_more by.0 marks mark by.1) [
       | inl before ↦ group-runs marks other by.0 before by.2 (sym (alive-same marks id group element property at start (model_of by.0)) ∙ by.3)
       | inr last ↦ absurd (differ (eqb-true other group (sym (ap (starts_in other) last) ∙ by.2)))
     ])
     (λ is.
     let by = group-runs-by marks other is in
-    group-runs (marks ++ mark ∷ []) other by.0 (among-more marks by.0 mark by.1) by.2 (alive-same marks id group element property at start (model_of by.0) ∙ by.3))
+    group-runs (marks ++ mark ∷ []) other by.0 (among-append_left by.0 marks (mark ∷ []) by.1) by.2 (alive-same marks id group element property at start (model_of by.0) ∙ by.3))
 
 -- what another group blocks stays
 pub blocks-elsewhere : (marks : List Mark) (id group element : ℕ) (property : Property) (at : ℕ) (start : ℤ) (other e : ℕ) (p : Property) → other ≢ group
@@ -187,8 +180,8 @@ start-blocks table new marks id group element property at start stand whole aliv
         is
         ∙ and-implied (is_group_running marks g) (list_any (λ (k : Mark). starts_in g k && starts_on e p k) marks)
         (λ any.
-        let found = any-found (λ (k : Mark). starts_in g k && starts_on e p k) marks any in
-        let begun : list_any (starts_in g) marks ≡ true = any-true (starts_in g) marks found.0 found.1 (and-first (starts_in g found.0) (starts_on e p found.0) found.2) in
+        let found = any-cases (λ (k : Mark). starts_in g k && starts_on e p k) marks any in
+        let begun : list_any (starts_in g) marks ≡ true = any-among (starts_in g) found.0 marks found.1 (and-first (starts_in g found.0) (starts_on e p found.0) found.2) in
         ap (is_group_running marks) same ∙ sym whole ∙ ap (λ (x : ℕ). list_any (starts_in x) marks) (sym same) ∙ begun)
 
     stand-own : g ≡ group
@@ -225,7 +218,7 @@ end-elsewhere models marks mark model other fit there of end differ =
     both-ways (is_group_running (marks ++ mark ∷ []) other) (is_group_running marks other)
     (λ is.
     let by = group-runs-by (marks ++ mark ∷ []) other is in
-    elim (among-append marks mark by.0 by.1) [
+    elim (among-one_more by.0 marks mark by.1) [
       | inl before ↦ group-runs marks other by.0 before by.2 (ended-before marks mark (model_of by.0) by.3)
       | inr last ↦ let yes_start : starts_in other mark ≡ true = sym (ap (starts_in other) last) ∙ by.2 in let none = end other in absurd (apart yes_start none)
     ])
@@ -233,7 +226,7 @@ end-elsewhere models marks mark model other fit there of end differ =
     let by = group-runs-by marks other is in
     let own : (model_of by.0 == model.id) ≡ false =
     apart-test (model_of by.0) model.id (λ same. differ (agree-group by.0 model other (fit.agree by.0 model by.1 there) by.2 same)) in
-    group-runs (marks ++ mark ∷ []) other by.0 (among-more marks by.0 mark by.1) by.2
+    group-runs (marks ++ mark ∷ []) other by.0 (among-append_left by.0 marks (mark ∷ []) by.1) by.2
     (ended-more marks mark (model_of by.0)
     ∙ ap (λ b. b || ends (model_of by.0) mark) by.3
     ∙ ends-of mark model (model_of by.0) of end
@@ -273,7 +266,7 @@ end-keeps models table marks mark model fit there of end runs stand g e p =
     before : ((k : Mark) × IsAmong k (marks ++ mark ∷ []) × (starts_in model.group k ≡ true) × (is_ended (marks ++ mark ∷ []) (model_of k) ≡ false))
         → is_group_running marks model.group ≡ true
     before by =
-        elim (among-append marks mark by.0 by.1) [
+        elim (among-one_more by.0 marks mark by.1) [
           | inl first ↦ group-runs marks model.group by.0 first by.2 (ended-before marks mark (model_of by.0) by.3)
           | inr last ↦ absurd (apart (sym (ap (starts_in model.group) last) ∙ by.2) (end model.group))
         ]
@@ -326,7 +319,7 @@ end-frees models table new marks mark model fit there of end still released stan
     elsewhere : (b : Bool) → blocks marks model.group e p ≡ b → (model.element == e) ≡ false → b ≡ false
     elsewhere true is apart =
         let any = and-second (is_group_running marks model.group) (list_any (λ (k : Mark). starts_in model.group k && starts_on e p k) marks) is in
-        let found = any-found (λ (k : Mark). starts_in model.group k && starts_on e p k) marks any in
+        let found = any-cases (λ (k : Mark). starts_in model.group k && starts_on e p k) marks any in
         let here : e ≡ model.element =
         agree-element found.0 model e p (fit.agree found.0 model found.1 there)
         (and-first (starts_in model.group found.0) (starts_on e p found.0) found.2)
@@ -372,7 +365,7 @@ blocked-for table marks group element property stand =
     both-ways (is_other group (blocker_of table element property)) (is_blocked_for marks group element property)
     (held (blocker_of table element property) refl)
     (λ is.
-    let found = any-found test (filter_map started_group marks) is in
+    let found = any-cases test (filter_map started_group marks) is in
     other-held (blocker_of table element property) found.0 (and-first (not (group == found.0)) (blocks marks found.0 element property) found.2)
     (stand found.0 element property ∙ and-second (not (group == found.0)) (blocks marks found.0 element property) found.2))
   where
@@ -385,8 +378,8 @@ blocked-for table marks group element property stand =
     held (Some h) is other =
         let blocked : blocks marks h element property ≡ true = sym (stand h element property) ∙ ap (is_held_by h) is ∙ eq-eqb h h refl in
         let any = and-second (is_group_running marks h) (list_any (λ (k : Mark). starts_in h k && starts_on element property k) marks) blocked in
-        let found = any-found (λ (k : Mark). starts_in h k && starts_on element property k) marks any in
-        any-true (λ (other : ℕ). not (group == other) && blocks marks other element property) (filter_map started_group marks) h
+        let found = any-cases (λ (k : Mark). starts_in h k && starts_on element property k) marks any in
+        any-among (λ (other : ℕ). not (group == other) && blocks marks other element property) h (filter_map started_group marks)
         (given-among marks found.0 h found.1 (started-in found.0 h (and-first (starts_in h found.0) (starts_on element property found.0) found.2)))
         (and-both (not (group == h)) (blocks marks h element property) other blocked)
 
@@ -399,9 +392,9 @@ none-blocks marks group element property other free differ = either (blocks mark
     either false is = refl
     either true is =
         let any = and-second (is_group_running marks other) (list_any (λ (k : Mark). starts_in other k && starts_on element property k) marks) is in
-        let found = any-found (λ (k : Mark). starts_in other k && starts_on element property k) marks any in
+        let found = any-cases (λ (k : Mark). starts_in other k && starts_on element property k) marks any in
         let blocked : is_blocked_for marks group element property ≡ true =
-        any-true (λ (h : ℕ). not (group == h) && blocks marks h element property) (filter_map started_group marks) other
+        any-among (λ (h : ℕ). not (group == h) && blocks marks h element property) other (filter_map started_group marks)
         (given-among marks found.0 other found.1 (started-in found.0 other (and-first (starts_in other found.0) (starts_on element property found.0) found.2)))
         (and-both (not (group == other)) (blocks marks other element property) (from-false (group == other) (apart-test group other (λ same. differ (sym same)))) is) in
         sym blocked ∙ free
@@ -430,39 +423,10 @@ pub clash : {A : Type 0} (b : Bool) → b ≡ true → b ≡ false → A
 clash true one two = cc
 clash false one two = cc
 
-filter-here : {A : Type 0} (p : A → Bool) (x y : A) (ys : List A) (b : Bool) → p y ≡ b → p x ≡ true → x ≡ y
-    → IsAmong x (cond b (y ∷ filter p ys) (filter p ys))
-filter-here p x y ys true test is same = inl same
-filter-here p x y ys false test is same = clash (p y) (sym (ap p same) ∙ is) test
-
-filter-later : {A : Type 0} (p : A → Bool) (x y : A) (ys : List A) (b : Bool) → IsAmong x (filter p ys)
-    → IsAmong x (cond b (y ∷ filter p ys) (filter p ys))
-filter-later p x y ys true there = inr there
-filter-later p x y ys false there = there
-
-pub among-filter : {A : Type 0} (p : A → Bool) (xs : List A) (x : A) → IsAmong x xs → p x ≡ true → IsAmong x (filter p xs)
-among-filter p [] x among is = absurd among
-among-filter p (y ∷ ys) x among is =
-    elim among [
-      | inl same ↦ filter-here p x y ys (p y) refl is same
-      | inr later ↦ filter-later p x y ys (p y) (among-filter p ys x later is)
-    ]
-
-filter-found : {A : Type 0} (p : A → Bool) (x y : A) (ys : List A) (b : Bool) → p y ≡ b
-    → (IsAmong x (filter p ys) → IsAmong x ys × (p x ≡ true))
-    → IsAmong x (cond b (y ∷ filter p ys) (filter p ys)) → IsAmong x (y ∷ ys) × (p x ≡ true)
-filter-found p x y ys true test rest among =
-    elim among [ inl same ↦ (inl same, ap p same ∙ test) | inr later ↦ (inr (rest later).0, (rest later).1) ]
-filter-found p x y ys false test rest among = (inr (rest among).0, (rest among).1)
-
-pub filter-among : {A : Type 0} (p : A → Bool) (xs : List A) (x : A) → IsAmong x (filter p xs) → IsAmong x xs × (p x ≡ true)
-filter-among p [] x among = absurd among
-filter-among p (y ∷ ys) x among = filter-found p x y ys (p y) refl (filter-among p ys x) among
-
 -- a model of this id
 pub among-model : (models : List Spec) (id : ℕ) → is_among models id ≡ true → (model : Spec) × IsAmong model models × (model.id ≡ id)
 among-model models id is =
-    let found = any-found (λ (m : Spec). id == m.id) models is in
+    let found = any-cases (λ (m : Spec). id == m.id) models is in
     (found.0, found.1, sym (eqb-true id found.0.id found.2))
 
 starts-of : (mark : Mark) (group id : ℕ) → starts_in group mark ≡ true → model_of mark ≡ id → starts id mark ≡ true
@@ -482,8 +446,8 @@ starts-group (Aborted own commit) model agrees is = cc
 pub started-group-of : (models : List Spec) (marks : List Mark) (model : Spec) → MarksFit models marks → IsAmong model models
     → is_started marks model.id ≡ true → list_any (starts_in model.group) marks ≡ true
 started-group-of models marks model fit there is =
-    let found = any-found (starts model.id) marks is in
-    any-true (starts_in model.group) marks found.0 found.1 (starts-group found.0 model (fit.agree found.0 model found.1 there) found.2).0
+    let found = any-cases (starts model.id) marks is in
+    any-among (starts_in model.group) found.0 marks found.1 (starts-group found.0 model (fit.agree found.0 model found.1 there) found.2).0
 
 pub runs-after : (models : List Spec) (marks : List Mark) (mark : Mark) (model : Spec)
     → MarksFit models marks → IsAmong model models → IsOf mark model → ((group : ℕ) → starts_in group mark ≡ false)
@@ -495,33 +459,33 @@ runs-after models marks mark model fit there of end =
     both-ways (is_group_running (marks ++ mark ∷ []) model.group) (list_any test (filter own models))
     (λ is.
     let by = group-runs-by (marks ++ mark ∷ []) model.group is in
-    elim (among-append marks mark by.0 by.1) [
+    elim (among-one_more by.0 marks mark by.1) [
       | inr last ↦ clash (starts_in model.group mark) (sym (ap (starts_in model.group) last) ∙ by.2) (end model.group)
       | inl before ↦
           let alive : is_ended marks (model_of by.0) ≡ false = ended-before marks mark (model_of by.0) by.3 in
           let found = among-model models (model_of by.0) (there-running models marks by.0 model.group (fit.running by.0 before) by.2 alive) in
           let group : model.group ≡ found.0.group =
           agree-group by.0 found.0 model.group (fit.agree by.0 found.0 before found.1) by.2 (sym found.2) in
-          let began : is_started marks found.0.id ≡ true = any-true (starts found.0.id) marks by.0 before (starts-of by.0 model.group found.0.id by.2 (sym found.2)) in
+          let began : is_started marks found.0.id ≡ true = any-among (starts found.0.id) by.0 marks before (starts-of by.0 model.group found.0.id by.2 (sym found.2)) in
           let runs : is_running marks found.0.id ≡ true =
           and-both (is_started marks found.0.id) (not (is_ended marks found.0.id)) began (from-false (is_ended marks found.0.id) (ap (is_ended marks) found.2 ∙ alive)) in
           let differ : (found.0.id == model.id) ≡ false =
           ap (λ (x : ℕ). x == model.id) found.2
           ∙ sym (ends-of mark model (model_of by.0) of end)
           ∙ or-second-false (is_ended marks (model_of by.0)) (ends (model_of by.0) mark) (sym (ended-more marks mark (model_of by.0)) ∙ by.3) in
-          any-true test (filter own models) found.0 (among-filter own models found.0 found.1 (eq-eqb model.group found.0.group group))
+          any-among test found.0 (filter own models) (among-filter_from own found.0 models found.1 (eq-eqb model.group found.0.group group))
           (and-both (not (found.0.id == model.id)) (is_running marks found.0.id) (from-false (found.0.id == model.id) differ) runs)
     ])
     (λ is.
-    let found = any-found test (filter own models) is in
-    let mate = filter-among own models found.0 found.1 in
+    let found = any-cases test (filter own models) is in
+    let mate = among-filter own found.0 models found.1 in
     let group : model.group ≡ found.0.group = eqb-true model.group found.0.group mate.1 in
     let runs = and-second (not (found.0.id == model.id)) (is_running marks found.0.id) found.2 in
     let differ = not-true (found.0.id == model.id) (and-first (not (found.0.id == model.id)) (is_running marks found.0.id) found.2) in
-    let by = any-found (starts found.0.id) marks (and-first (is_started marks found.0.id) (not (is_ended marks found.0.id)) runs) in
+    let by = any-cases (starts found.0.id) marks (and-first (is_started marks found.0.id) (not (is_ended marks found.0.id)) runs) in
     let its = starts-group by.0 found.0 (fit.agree by.0 found.0 by.1 mate.0) by.2 in
     let alive : is_ended marks found.0.id ≡ false = not-true (is_ended marks found.0.id) (and-second (is_started marks found.0.id) (not (is_ended marks found.0.id)) runs) in
-    group-runs (marks ++ mark ∷ []) model.group by.0 (among-more marks by.0 mark by.1)
+    group-runs (marks ++ mark ∷ []) model.group by.0 (among-append_left by.0 marks (mark ∷ []) by.1)
     (ap (λ (g : ℕ). starts_in g by.0) group ∙ its.0)
     (ended-more marks mark (model_of by.0)
     ∙ ap (λ b. b || ends (model_of by.0) mark) (ap (is_ended marks) its.1 ∙ alive)

@@ -10,78 +10,17 @@ use Rattle.tree_commit.specs.declared.runs.mark.Mark.TheVariants.{Started, Finis
 use Rattle.tree_commit.specs.Follows.{Follows, IsAmong, has_mark}
 use Rattle.tree_commit.specs.Marks.{ends, is_ended, model_of, starts_in}
 use Rattle.tree_commit.specs.Trees.{Committed, TreeLists}
+use Rattle.tree_commit.proofs.Among.{among-has, among-one_more, any-among, one-model}
 use Rattle.anim_host.specs.Fits.{AgreesWith, IsOf, IsThereIfRunning, MarksFit}
 use Rattle.host_tables.specs.States.{is_among}
-use Rattle.host_tables.proofs.AmongLemmas.{among-there}
 use Rattle.host_tables.proofs.StateLemmas.{ended-more}
 
--- ---- lists
-
-pub any-true : {A : Type 0} (p : A → Bool) (xs : List A) (x : A) → IsAmong x xs → p x ≡ true → list_any p xs ≡ true
-any-true p [] x among is = absurd among
-any-true p (y ∷ ys) x among is =
-    elim among [
-      | inl same ↦ ap (λ b. b || list_any p ys) (sym (ap p same) ∙ is)
-      | inr rest ↦ either (p y) (list_any p ys) (any-true p ys x rest is)
-    ]
-  where
-    either : (a b : Bool) → b ≡ true → (a || b) ≡ true
-    either true b is = refl
-    either false b is = is
-
-pub any-found : {A : Type 0} (p : A → Bool) (xs : List A) → list_any p xs ≡ true → (x : A) × IsAmong x xs × (p x ≡ true)
-any-found p [] is = cc
-any-found p (y ∷ ys) is = here (p y) refl is (any-found p ys)
-  where
-    here : (b : Bool) → p y ≡ b → (b || list_any p ys) ≡ true
-        → (list_any p ys ≡ true → (x : _) × IsAmong x ys × (p x ≡ true))
-        → (x : _) × IsAmong x (y ∷ ys) × (p x ≡ true)
-    here true test is rest = (y, inl refl, test)
-    here false test is rest = let found = rest is in (found.0, inr found.1, found.2)
+-- ---- tests
 
 pub both-ways : (a b : Bool) → (a ≡ true → b ≡ true) → (b ≡ true → a ≡ true) → a ≡ b
 both-ways true b there back = sym (there refl)
 both-ways false true there back = back refl
 both-ways false false there back = refl
-
-pub among-append : {A : Type 0} (xs : List A) (y x : A) → IsAmong x (xs ++ y ∷ []) → IsAmong x xs ⊎ (x ≡ y)
-among-append [] y x among = elim among [ inl same ↦ inr same | inr none ↦ absurd none ]
-among-append (z ∷ xs) y x among =
-    elim among [
-      | inl same ↦ inl (inl same)
-      | inr rest ↦ elim (among-append xs y x rest) [ inl there ↦ inl (inr there) | inr last ↦ inr last ]
-    ]
-
-other-id : (id : ℕ) (models : List Spec) (model : Spec)
-    → AllByRecursion (λ other. nat_eq id other ≡ false) (map (λ m. m.id) models) → IsAmong model models → nat_eq id model.id ≡ false
-other-id id [] model all among = absurd among
-other-id id (x ∷ models) model all among =
-    elim among [
-      | inl same ↦ ap (λ (m : Spec). nat_eq id m.id) same ∙ all.0
-      | inr rest ↦ other-id id models model all.1 rest
-    ]
-
-differs : (id other : ℕ) → nat_eq id other ≡ false → id ≡ other → ⊥
-differs id other apart same = let e : nat_eq id other ≡ true = eq-eqb id other same in cc
-
--- two models of one id are one
-pub same-model : (models : List Spec) (model twin : Spec) → IsDistinct nat_eq (map (λ m. m.id) models)
-    → IsAmong model models → IsAmong twin models → model.id ≡ twin.id → model ≡ twin
-same-model [] model twin differ there also ids = absurd there
-same-model (x ∷ models) model twin differ there also ids =
-    let head = IsDistinct-head nat_eq x.id (map (λ m. m.id) models) differ in
-    elim there [
-      | inl here ↦
-          elim also [
-            | inl too ↦ here ∙ sym too
-            | inr rest ↦ absurd (differs x.id twin.id (other-id x.id models twin head rest) (ap (λ (m : Spec). m.id) (sym here) ∙ ids))
-          ]
-      | inr rest ↦
-          elim also [
-            | inl too ↦ absurd (differs x.id model.id (other-id x.id models model head rest) (ap (λ (m : Spec). m.id) (sym too) ∙ sym ids))
-            | inr others ↦ same-model models model twin (IsDistinct-tail nat_eq x.id (map (λ m. m.id) models) differ) rest others ids
-          ]
-    ]
 
 -- ---- one more mark about a model of the active commit
 
@@ -89,7 +28,7 @@ agrees-of : (models : List Spec) (mark : Mark) (model other : Spec) → IsDistin
     → ((one mate : Spec) → IsAmong one models → IsAmong mate models → one.group ≡ mate.group → one.element ≡ mate.element)
     → IsAmong model models → IsOf mark model → IsAmong other models → AgreesWith mark other
 agrees-of models (Started id group element property at start) model other differ mates there of also = (
-  λ ids. of.1 ∙ ap (λ (m : Spec). m.group) (same-model models model other differ there also (sym of.0 ∙ ids)),
+  λ ids. of.1 ∙ ap (λ (m : Spec). m.group) (one-model models model other differ there also (sym of.0 ∙ ids)),
   λ groups. of.2 ∙ mates model other there also (sym of.1 ∙ groups),
 )
 agrees-of models (Finished id at) model other differ mates there of also = tt
@@ -108,7 +47,7 @@ still-there models marks mark (Finished id at) there = tt
 still-there models marks mark (Aborted id commit) there = tt
 
 new-there : (models : List Spec) (marks : List Mark) (mark : Mark) (model : Spec) → IsAmong model models → IsOf mark model → IsThereIfRunning models marks mark
-new-there models marks (Started id group element property at start) model there of = λ alive. ap (is_among models) of.0 ∙ among-there models model there
+new-there models marks (Started id group element property at start) model there of = λ alive. ap (is_among models) of.0 ∙ among-has model models there
 new-there models marks (Finished id at) model there of = tt
 new-there models marks (Aborted id commit) model there of = tt
 
@@ -116,12 +55,12 @@ pub fits-next : (models : List Spec) (marks : List Mark) (mark : Mark) (model : 
     → MarksFit models marks → IsAmong model models → IsOf mark model → MarksFit models (marks ++ mark ∷ [])
 fits-next models marks mark model differ fit there of = record {
   agree = λ one other among also.
-      elim (among-append marks mark one among) [
+      elim (among-one_more one marks mark among) [
         | inl before ↦ fit.agree one other before also
         | inr last ↦ subst (λ (m : Mark). AgreesWith m other) (sym last) (agrees-of models mark model other differ fit.mates there of also)
       ];
   running = λ one among.
-      elim (among-append marks mark one among) [
+      elim (among-one_more one marks mark among) [
         | inl before ↦ still-there models marks mark one (fit.running one before)
         | inr last ↦ subst (λ (m : Mark). IsThereIfRunning models (marks ++ mark ∷ []) m) (sym last) (new-there models (marks ++ mark ∷ []) mark model there of)
       ];
@@ -186,7 +125,7 @@ follows-next active pending marks mark model follows there of = record {
         | inl before ↦ follows.group_started other among before
         | inr last ↦
             follows.group_there other among
-            (any-true (λ (m : Spec). other.group == m.group) active.models model there (eq-eqb other.group model.group (group-of mark model other.group of last)))
+            (any-among (λ (m : Spec). other.group == m.group) model active.models there (eq-eqb other.group model.group (group-of mark model other.group of last)))
       ];
   groups_agree = follows.groups_agree;
   timelines = follows.timelines;
@@ -200,11 +139,11 @@ agrees-over active pending marks follows fit (Started id group element property 
   λ ids.
       (fit.agree (Started id group element property at start) model among
       (follows.marked model there
-      (any-true (λ (k : Mark). model.id == model_of k) marks (Started id group element property at start) among (eq-eqb model.id id (sym ids))))).0 ids,
+      (any-among (λ (k : Mark). model.id == model_of k) (Started id group element property at start) marks among (eq-eqb model.id id (sym ids))))).0 ids,
   λ groups.
       (fit.agree (Started id group element property at start) model among
       (follows.group_started model there
-      (any-true (starts_in model.group) marks (Started id group element property at start) among (eq-eqb model.group group (sym groups))))).1 groups,
+      (any-among (starts_in model.group) (Started id group element property at start) marks among (eq-eqb model.group group (sym groups))))).1 groups,
 )
 agrees-over active pending marks follows fit (Finished id at) model among there = tt
 agrees-over active pending marks follows fit (Aborted id commit) model among there = tt

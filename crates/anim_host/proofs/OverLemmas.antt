@@ -15,14 +15,13 @@ use Rattle.tree_commit.specs.Marks.{is_over, is_running, is_started, model_of, s
 use Rattle.tree_commit.specs.Tables.{HasAllTimelines, has_timeline}
 use Rattle.tree_commit.specs.Trees.{TreeLists, origin_of}
 use Rattle.tree_commit.proofs.OverLemmas.{over-later as stays-over}
+use Rattle.tree_commit.proofs.Among.{each-found, one-model}
 use Rattle.keyframe_effect.specs.declared.model.ModelRow.{ModelRow}
 use Rattle.host_tables.specs.Rows.{advanced_row, marked_row, says_over}
 use Rattle.host_tables.specs.States.{row_for}
-use Rattle.host_tables.proofs.AmongLemmas.{all-at}
 use Rattle.host_tables.proofs.MarkedLemmas.{marked-runs, over-runs, row-over-advanced}
 use Rattle.host_tables.proofs.StateLemmas.{running-started, start-kept, state-runs}
 use Rattle.anim_host.specs.Standing.{IsOver}
-use Rattle.anim_host.proofs.FitLemmas.{same-model}
 use Rattle.anim_host.proofs.StandLemmas.{row-state}
 
 -- ---- a later tick
@@ -69,7 +68,7 @@ pub over-found : (at new : ℕ → Option ModelRow) (tree : TreeLists) (marks : 
 over-found at new tree marks tick model differ there is others over = λ id says.
     elim (eqb_tells id model.id) [
       | inl t ↦ λ (twin : Spec) also its.
-          let same : model ≡ twin = same-model tree.models model twin differ there also (sym t.1 ∙ sym its) in
+          let same : model ≡ twin = one-model tree.models model twin differ there also (sym t.1 ∙ sym its) in
           ap (λ (n : ℕ). is_over tree tick twin (start_of marks n)) t.1
           ∙ ap (λ (m : Spec). is_over tree tick m (start_of marks model.id)) (sym same)
           ∙ is
@@ -118,7 +117,7 @@ place-of x (y ∷ xs) there =
 timeline-there : (tree : TreeLists) (model : Spec) → HasAllTimelines tree → IsAmong model tree.models → IsTrue (has_timeline tree model.timeline)
 timeline-there tree model all there =
     let found = place-of model tree.models there in
-    all-at (λ (m : Spec). IsTrue (has_timeline tree m.timeline)) tree.models found.0 model all found.1
+    each-found (λ (m : Spec). IsTrue (has_timeline tree m.timeline)) model tree.models found.0 all found.1
 
 over-there : (active pending : TreeLists) (tick : ℕ) (model : Spec) (shown : Option Shown)
     → origin_of pending model.timeline ≡ origin_of active model.timeline

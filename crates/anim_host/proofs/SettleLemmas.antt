@@ -14,15 +14,15 @@ use Rattle.tree_commit.specs.declared.runs.mark.Mark.TheVariants.{Started, Finis
 use Rattle.tree_commit.specs.Follows.{Follows, IsAmong, has_mark}
 use Rattle.tree_commit.specs.Marks.{ends, is_blocked_for, is_ended, is_group_running, is_ready, is_running, is_started, is_lost, marks_of_activation, may_start, model_of, pending_allows, start_mark, starts, starts_in}
 use Rattle.tree_commit.specs.Trees.{Committed, TreeLists, has_element, has_group, has_model, members_of}
+use Rattle.tree_commit.proofs.Among.{all-among, among-filter, among-filter_from, among-has, among-last, among-map, any-among, any-cases}
 use Rattle.std.proofs.lemmas.List.Folds.{list_any-append}
 use Rattle.std.proofs.Common.{◌⊎◌}
 use Rattle.host_tables.specs.States.{is_among}
-use Rattle.host_tables.proofs.AmongLemmas.{among-there}
 use Rattle.anim_host.specs.Fits.{AreSettled, IsOf, IsThereIfRunning, MarksFit, MayStartIn}
 use Rattle.host_tables.specs.Shapes.{at_places}
-use Rattle.anim_host.proofs.BlockLemmas.{among-filter, among-model, and-first, and-second, clash, ends-of, filter-among, none-blocks, not-true, running-starts, start-runs, started-group-of}
+use Rattle.anim_host.proofs.BlockLemmas.{among-model, and-first, and-second, clash, ends-of, none-blocks, not-true, running-starts, start-runs, started-group-of}
 use Rattle.host_tables.proofs.ShapeLemmas.{below-append}
-use Rattle.anim_host.proofs.FitLemmas.{any-found, any-true, both-ways, started-in-more}
+use Rattle.anim_host.proofs.FitLemmas.{both-ways, started-in-more}
 use Rattle.host_tables.proofs.StateLemmas.{ended-more, or_none, started-grows}
 
 or-either : {A : Type 0} (a b : Bool) → (a || b) ≡ true → (a ≡ true → A) → (b ≡ true → A) → A
@@ -75,14 +75,10 @@ starts-begin tree tick marks (first ∷ models) model there =
     ∙ elim there [
       | inl same ↦
           starts-grow tree tick (marks ++ start_mark tree tick first ∷ []) models model.id
-          (any-true (starts model.id) (marks ++ start_mark tree tick first ∷ []) (start_mark tree tick first) (last marks (start_mark tree tick first))
+          (any-among (starts model.id) (start_mark tree tick first) (marks ++ start_mark tree tick first ∷ []) (among-last (start_mark tree tick first) marks)
           (eq-eqb model.id first.id (ap (λ (m : Spec). m.id) same)))
       | inr rest ↦ starts-begin tree tick (marks ++ start_mark tree tick first ∷ []) models model rest
     ]
-  where
-    last : (ms : List Mark) (m : Mark) → IsAmong m (ms ++ m ∷ [])
-    last [] m = inl refl
-    last (x ∷ ms) m = inr (last ms m)
 
 -- which groups have started then
 starts-groups : (tree : TreeLists) (tick group other : ℕ) (marks : List Mark) (models : List Spec)
@@ -109,12 +105,12 @@ settled-group tree tick group marks settled = record {
       elim (eqb_tells group model.group) [
         | inl t ↦
             starts-begin tree tick marks (filter (λ m. group == m.group) tree.models) model
-            (among-filter (λ (m : Spec). group == m.group) tree.models model there t.0)
+            (among-filter_from (λ (m : Spec). group == m.group) model tree.models there t.0)
         | inr f ↦
             starts-grow tree tick marks (filter (λ m. group == m.group) tree.models) model.id
             (settled.together model there
             (starts-groups tree tick group model.group marks (filter (λ m. group == m.group) tree.models)
-            (λ m its. eqb-true group m.group (filter-among (λ (m : Spec). group == m.group) tree.models m its).1) is (λ same. f.1 (sym same))))
+            (λ m its. eqb-true group m.group (among-filter (λ (m : Spec). group == m.group) m tree.models its).1) is (λ same. f.1 (sym same))))
       ];
 }
 
@@ -176,14 +172,6 @@ pub ended-tells : (models : List Spec) (marks : List Mark) (model : Spec) → Ma
 ended-tells models marks model fit settled there runs =
     ended-or (is_started marks model.id) (is_ended marks model.id) (settled.ended model there) runs ∙ started-tells models marks model fit settled there
 
-pub all-found : {A : Type 0} (p : A → Bool) (xs : List A) (x : A) → list_all p xs ≡ true → IsAmong x xs → p x ≡ true
-all-found p [] x all among = absurd among
-all-found p (y ∷ ys) x all among =
-    elim among [
-      | inl same ↦ ap p same ∙ and-first (p y) (list_all p ys) all
-      | inr rest ↦ all-found p ys x (and-second (p y) (list_all p ys) all) rest
-    ]
-
 -- a model of a group that is ready may start with it
 pub may-start-in : (tree : TreeLists) (pending : Option Committed) (marks : List Mark) (group : ℕ) (model : Spec)
     → MarksFit tree.models marks → AreSettled tree.models marks
@@ -192,11 +180,11 @@ pub may-start-in : (tree : TreeLists) (pending : Option Committed) (marks : List
     → MayStartIn group tree marks model
 unfolding is_ready
 may-start-in tree pending marks group model fit settled ready among =
-    let its = filter-among (λ (m : Spec). group == m.group) tree.models model among in
+    let its = among-filter (λ (m : Spec). group == m.group) model tree.models among in
     let own : group ≡ model.group = eqb-true group model.group its.1 in
     let front = and-first (has_group tree group && not (list_any (starts_in group) marks)) (list_all (may_start tree pending marks) (members_of tree group)) ready in
     let none : list_any (starts_in group) marks ≡ false = not-true (list_any (starts_in group) marks) (and-second (has_group tree group) (not (list_any (starts_in group) marks)) front) in
-    let may = all-found (may_start tree pending marks) (members_of tree group) model
+    let may = all-among (may_start tree pending marks) model (members_of tree group)
     (and-second (has_group tree group && not (list_any (starts_in group) marks)) (list_all (may_start tree pending marks) (members_of tree group)) ready) among in
     let two = and-first (has_element tree model.element && pending_allows pending model.group model.element) (not (is_blocked_for marks model.group model.element (property_of model))) may in
     let free = not-true (is_blocked_for marks model.group model.element (property_of model))
@@ -239,8 +227,8 @@ no-places models group none = either (list_any (λ m. group == m.group) models) 
     either : (b : Bool) → list_any (λ m. group == m.group) models ≡ b → list_any (λ m. group == m.group) models ≡ false
     either false is = is
     either true is =
-        let found = any-found (λ (m : Spec). group == m.group) models is in
-        let there = among-filter (λ (m : Spec). group == m.group) models found.0 found.1 found.2 in
+        let found = any-cases (λ (m : Spec). group == m.group) models is in
+        let there = among-filter_from (λ (m : Spec). group == m.group) found.0 models found.1 found.2 in
         absurd (subst (λ (ms : List Spec). IsAmong found.0 ms) none there)
 
 pub at-pushed : (models : List Spec) (places : List ℕ) (place : ℕ) (model : Spec) (b : Bool) → slice_get models place ≡ Some model
@@ -261,10 +249,6 @@ gives-model test model models false = refl
 
 -- ---- an activation
 
-among-map : {A B : Type 0} (f : A → B) (xs : List A) (x : A) → IsAmong x xs → IsAmong (f x) (map f xs)
-among-map f [] x among = absurd among
-among-map f (y ∷ ys) x among = elim among [ inl same ↦ inl (ap f same) | inr rest ↦ inr (among-map f ys x rest) ]
-
 among-unmap : {A B : Type 0} (f : A → B) (xs : List A) (y : B) → IsAmong y (map f xs) → (x : A) × IsAmong x xs × (y ≡ f x)
 among-unmap f [] y among = absurd among
 among-unmap f (x ∷ xs) y among =
@@ -284,8 +268,8 @@ lost-ended active new marks model there lost =
     let new_marks = map (λ (m : Spec). Aborted m.id new.number) (filter (is_lost new.tree marks) active.models) in
     list_any-append (ends model.id) marks new_marks
     ∙ or-last (is_ended marks model.id) (list_any (ends model.id) new_marks)
-    (any-true (ends model.id) new_marks (Aborted model.id new.number)
-    (among-map (λ (m : Spec). Aborted m.id new.number) (filter (is_lost new.tree marks) active.models) model (among-filter (is_lost new.tree marks) active.models model there lost))
+    (any-among (ends model.id) (Aborted model.id new.number) new_marks
+    (among-map (λ (m : Spec). Aborted m.id new.number) model (filter (is_lost new.tree marks) active.models) (among-filter_from (is_lost new.tree marks) model active.models there lost))
     (eq-eqb model.id model.id refl))
 
 -- what has ended had, or is lost
@@ -297,9 +281,9 @@ ended-after active new marks id is =
     or-either (is_ended marks id) (list_any (ends id) new_marks) (sym (list_any-append (ends id) marks new_marks) ∙ is)
     (λ before. inl before)
     (λ now.
-    let by = any-found (ends id) new_marks now in
+    let by = any-cases (ends id) new_marks now in
     let lost = among-unmap (λ (m : Spec). Aborted m.id new.number) (filter (is_lost new.tree marks) active.models) by.0 by.1 in
-    let its = filter-among (is_lost new.tree marks) active.models lost.0 lost.1 in
+    let its = among-filter (is_lost new.tree marks) lost.0 active.models lost.1 in
     inr (lost.0, its.0, its.1, eqb-true id lost.0.id (sym (ap (ends id) lost.2) ∙ by.2)))
 
 or-parts : (a b : Bool) → (a || b) ≡ false → (a ≡ false) × (b ≡ false)
@@ -352,8 +336,8 @@ grows-by marks more id is = list_any-append (starts id) marks more ∙ ap (λ b.
 
 mark-of : (marks : List Mark) (id : ℕ) → is_ended marks id ≡ true → has_mark marks id ≡ true
 mark-of marks id is =
-    let by = any-found (ends id) marks is in
-    any-true (λ (k : Mark). id == model_of k) marks by.0 by.1 (its by.0 by.2)
+    let by = any-cases (ends id) marks is in
+    any-among (λ (k : Mark). id == model_of k) by.0 marks by.1 (its by.0 by.2)
   where
     its : (mark : Mark) → ends id mark ≡ true → (id == model_of mark) ≡ true
     its (Started own group element property at start) ends_it = cc
@@ -376,7 +360,7 @@ settled-over active new marks follows settled =
             | inr now ↦
                 let twin : now.0 ≡ model = follows.one_model now.0 model now.1 there (sym now.3) in
                 let lost : is_lost new.tree marks model ≡ true = ap (is_lost new.tree marks) (sym twin) ∙ now.2 in
-                let kept : has_model new.tree model.id ≡ true = among-there new.tree.models model there in
+                let kept : has_model new.tree model.id ≡ true = among-has model new.tree.models there in
                 let rest = and-second (not (is_ended marks model.id)) (not (has_model new.tree model.id) || (is_started marks model.id && not (has_element new.tree model.element))) lost in
                 grows-by marks more model.id
                 (and-first (is_started marks model.id) (not (has_element new.tree model.element))

@@ -10,6 +10,7 @@ use Rattle.tree_commit.specs.declared.runs.mark.Mark.{Mark}
 use Rattle.tree_commit.specs.declared.runs.mark.Mark.TheVariants.{Started, Finished, Aborted}
 use Rattle.tree_commit.specs.Follows.{IsAmong}
 use Rattle.tree_commit.specs.Marks.{model_of}
+use Rattle.tree_commit.proofs.Among.{among-has}
 use Rattle.anim_host.specs.Fits.{IsOf}
 use Rattle.keyframe_effect.specs.Groups.{CanMove, first_row, moved, moved_count, one_if, row_with}
 use Rattle.keyframe_effect.specs.States.{is_unfinished, is_waiting}
@@ -22,7 +23,7 @@ use Rattle.keyframe_effect.specs.declared.model.ModelRow.{ModelRow}
 use Rattle.keyframe_effect.specs.declared.state.RunState.TheVariants as state
 use Rattle.host_tables.specs.Rows.{advanced_row, entered, joined, left, marked_row, state_in}
 use Rattle.host_tables.specs.States.{FinishesStarted, advanced, as_marked, is_among, row_for, row_if, state_of}
-use Rattle.host_tables.proofs.AmongLemmas.{among-left, among-taken, among-there, apart-before, apart-behind, found-there}
+use Rattle.host_tables.proofs.AmongLemmas.{among-left, among-taken, apart-before, apart-behind, found-there}
 use Rattle.host_tables.proofs.StateLemmas.{state-here, state-other}
 
 -- ---- one row
@@ -262,7 +263,7 @@ module _ (at : ℕ → Option GroupRow) (models pending : List Spec) (rows : ℕ
         ap as_marked was
         ∙ state-marked (rows model.id)
         ∙ ap state_in (stand model.id)
-        ∙ row-stated models pending marks model.id (among-there models model there)
+        ∙ row-stated models pending marks model.id (among-has model models there)
 
     has : as_marked after ≡ state_of (marks ++ mark ∷ []) model.id
     has =

@@ -18,6 +18,7 @@ use Rattle.tree_commit.specs.declared.runs.mark.Mark.{Mark}
 use Rattle.tree_commit.specs.Follows.{IsAmong}
 use Rattle.tree_commit.specs.Marks.{are_over, finishing_models, is_ended, is_ready, is_running, is_started, may_start, pending_allows, starts_in}
 use Rattle.tree_commit.specs.Trees.{Committed, TreeLists, groups_of, has_group, members_of}
+use Rattle.tree_commit.proofs.Among.{among-filter, among-filter_from, any-among, any-cases}
 use Rattle.host_tables.specs.Blocks.{BlocksStand}
 use Rattle.host_tables.specs.Elements.{PresenceStands, pending_has}
 use Rattle.host_tables.specs.Groups.{group_row_of, is_waiting, row_of_members}
@@ -27,8 +28,7 @@ use Rattle.host_tables.proofs.ShapeLemmas.{groups-any}
 use Rattle.anim_host.specs.Fits.{AreSettled, MarksFit}
 use Rattle.anim_host.specs.Standing.{holds_group}
 use Rattle.anim_host.specs.Ticks.{finishes, group_finishes}
-use Rattle.anim_host.proofs.BlockLemmas.{among-filter, and-both, and-first, and-second, blocked-for, clash, filter-among}
-use Rattle.anim_host.proofs.FitLemmas.{any-found, any-true}
+use Rattle.anim_host.proofs.BlockLemmas.{and-both, and-first, and-second, blocked-for, clash}
 use Rattle.anim_host.proofs.SettleLemmas.{no-places, not-ended, started-tells}
 
 -- ---- counts
@@ -131,7 +131,7 @@ none-finish tree marks tick none =
     of-groups : (model : Spec) → IsAmong model tree.models → list_any (λ other. model.group == other) (groups_of tree) ≡ true
     of-groups model there =
         groups-any [] tree.models model.group
-        ∙ any-true (λ (m : Spec). model.group == m.group) tree.models model there (eq-eqb model.group model.group refl)
+        ∙ any-among (λ (m : Spec). model.group == m.group) model tree.models there (eq-eqb model.group model.group refl)
 
     either : (model : Spec) → IsAmong model tree.models → (b : Bool) → finishes tree marks tick model ≡ b → finishes tree marks tick model ≡ false
     either model there false is = is
@@ -139,11 +139,11 @@ none-finish tree marks tick none =
         let runs = and-first (is_running marks model.id) (are_over tree marks tick model.group) is in
         let over = and-second (is_running marks model.id) (are_over tree marks tick model.group) is in
         let mine : list_any (λ (m : Spec). is_running marks m.id) (members_of tree model.group) ≡ true =
-        any-true (λ (m : Spec). is_running marks m.id) (members_of tree model.group) model
-        (among-filter (λ (m : Spec). model.group == m.group) tree.models model there (eq-eqb model.group model.group refl)) runs in
-        let found = any-found (λ (other : ℕ). model.group == other) (groups_of tree) (of-groups model there) in
+        any-among (λ (m : Spec). is_running marks m.id) model (members_of tree model.group)
+        (among-filter_from (λ (m : Spec). model.group == m.group) model tree.models there (eq-eqb model.group model.group refl)) runs in
+        let found = any-cases (λ (other : ℕ). model.group == other) (groups_of tree) (of-groups model there) in
         let same : model.group ≡ found.0 = eqb-true model.group found.0 found.2 in
-        let all = any-true (group_finishes tree marks tick) (groups_of tree) found.0 found.1
+        let all = any-among (group_finishes tree marks tick) found.0 (groups_of tree) found.1
         (subst (λ (g : ℕ). group_finishes tree marks tick g ≡ true) same
         (and-both (list_any (λ (m : Spec). is_running marks m.id) (members_of tree model.group)) (are_over tree marks tick model.group) mine over)) in
         clash (list_any (group_finishes tree marks tick) (groups_of tree)) all none
@@ -185,7 +185,7 @@ module _ (table : Anims) (active : Committed) (pending : Option Committed) (mark
         and-both (test x) (list_all test xs) (all x (inl refl)) (all-among test xs (λ m there. all m (inr there)))
 
     of : (m : Spec) (members : List Spec) → filter keep active.tree.models ≡ members → IsAmong m members → IsAmong m active.tree.models × (keep m ≡ true)
-    of m members is there = filter-among keep active.tree.models m (subst (λ (ms : List Spec). IsAmong m ms) (sym is) there)
+    of m members is there = among-filter keep m active.tree.models (subst (λ (ms : List Spec). IsAmong m ms) (sym is) there)
 
     waits : (first : Spec) (mates : List Spec) → filter keep active.tree.models ≡ first ∷ mates
         → nat_lt 0 (count_by (λ model. is_waiting marks model.id) (first ∷ mates)) ≡ not has_started

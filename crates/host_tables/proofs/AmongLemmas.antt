@@ -1,29 +1,19 @@
 -- Models of a commit by their places: no two have one id.
-use Rattle.std.proofs.Common.{◌≡◌, ℕ, zero, suc, ◌+◌, Bool, true, false, ◌||◌, List, [], ◌∷◌, map, take, drop, Some, refl, sym, ap, ◌∙◌, nat_eq, subst, inl, inr}
-use Rattle.std.specs.Prelude.{slice_get, ◌==◌, All}
+use Rattle.std.proofs.Common.{◌≡◌, ℕ, zero, suc, ◌+◌, Bool, true, false, ◌||◌, List, [], ◌∷◌, map, take, drop, Some, refl, sym, ap, ◌∙◌, nat_eq, inl, inr}
+use Rattle.std.specs.Prelude.{slice_get, ◌==◌}
 use Rattle.std.specs.List.{IsDistinct, AllByRecursion}
 use Rattle.std.proofs.lemmas.Bool.{eq-eqb}
 use Rattle.std.proofs.lemmas.Bool.Decides.{eqb_tells}
-use Rattle.std.proofs.lemmas.Option.{none-some, same_Some, get_or_from_slice_get, slice_get_within}
+use Rattle.std.proofs.lemmas.Option.{none-some, same_Some}
 use Rattle.std.proofs.lemmas.Map.Keys.{IsDistinct-head, IsDistinct-tail}
 use Rattle.keyframe_model.specs.Models.{Spec}
-use Rattle.tree_commit.specs.Follows.{IsAmong}
+use Rattle.tree_commit.proofs.Among.{among-found, among-has}
 use Rattle.host_tables.specs.States.{is_among}
 use Rattle.host_tables.proofs.LoopLemmas.{drop-found}
 
 or-none : (b : Bool) → (b || false) ≡ b
 or-none true = refl
 or-none false = refl
-
-or-fact : (a b : Bool) → b ≡ true → (a || b) ≡ true
-or-fact true b is = refl
-or-fact false b is = is
-
--- a model that is found at a place is among the models
-pub found-among : (models : List Spec) (i : ℕ) (model : Spec) → slice_get models i ≡ Some model → IsAmong model models
-found-among [] i model found = absurd (none-some model found)
-found-among (x ∷ models) zero model found = inl (sym (same_Some x model found))
-found-among (x ∷ models) (suc i) model found = inr (found-among models i model found)
 
 -- one more of the first models
 pub among-taken : (models : List Spec) (i : ℕ) (model : Spec) (id : ℕ) → slice_get models i ≡ Some model
@@ -82,20 +72,4 @@ apart-before (x ∷ models) (suc i) model differ found =
 -- ---- by place
 
 pub found-there : (models : List Spec) (i : ℕ) (model : Spec) → slice_get models i ≡ Some model → is_among models model.id ≡ true
-found-there [] i model found = absurd (none-some model found)
-found-there (x ∷ models) zero model found =
-    ap (λ b. b || is_among models model.id) (eq-eqb model.id x.id (ap (λ (m : Spec). m.id) (sym (same_Some x model found))))
-found-there (x ∷ models) (suc i) model found = or-fact (model.id == x.id) (is_among models model.id) (found-there models i model found)
-
--- what is so of each element is so of the one at a place
-pub all-at : {X : Type 0} (P : X → Type 0) (xs : List X) (i : ℕ) (x : X) → All P xs → slice_get xs i ≡ Some x → P x
-all-at P xs i x all found = subst P (get_or_from_slice_get xs i x x found) (all i x (slice_get_within xs i x found))
-
--- a model of the list is there by its id
-pub among-there : (models : List Spec) (model : Spec) → IsAmong model models → is_among models model.id ≡ true
-among-there [] model among = absurd among
-among-there (x ∷ models) model among =
-    elim among [
-      | inl same ↦ ap (λ b. b || is_among models model.id) (eq-eqb model.id x.id (ap (λ (m : Spec). m.id) same))
-      | inr rest ↦ or-fact (model.id == x.id) (is_among models model.id) (among-there models model rest)
-    ]
+found-there models i model found = among-has model models (among-found model models i found)

@@ -12,9 +12,9 @@ use Rattle.tree_commit.specs.declared.runs.shown.Shown.{Shown}
 use Rattle.keyframe_model.specs.Models.{Spec}
 use Rattle.tree_commit.specs.Trees.{TreeLists}
 use Rattle.tree_commit.specs.Follows.{Follows, IsAmong, has_mark}
-use Rattle.host_tables.proofs.AmongLemmas.{among-there}
 use Rattle.tree_commit.specs.Frames.{shown_by}
 use Rattle.tree_commit.specs.Marks.{aborts, ends, is_aborted, is_ended, is_running, is_started, model_of, start_from, start_of, starts}
+use Rattle.tree_commit.proofs.Among.{among-has}
 use Rattle.keyframe_effect.specs.declared.state.RunState.TheVariants as state
 use Rattle.std.specs.Prelude.{unsigned_abs, IfSome}
 use Rattle.anim_timeline.specs.declared.TheConstants.{LAST_TIME}
@@ -383,5 +383,5 @@ follows-waits active pending marks follows model among gone = either (has_mark m
     either : (b : Bool) → has_mark marks model.id ≡ b → state_of marks model.id ≡ state.Waiting
     either false none = unmarked-waits marks model.id none
     either true some =
-        let there : is_among active.models model.id ≡ true = among-there active.models model (follows.marked model among some) in
+        let there : is_among active.models model.id ≡ true = among-has model active.models (follows.marked model among some) in
         cc

@@ -1,9 +1,8 @@
 -- A commit in which nothing but elements is new follows the one before, and there is room for its models.
 use Rattle.std.proofs.Common.{◌≡◌, ℕ, ◌≤◌, ◌==◌, true, false, List, [], ◌∷◌, length, map, refl, sym, ap, subst, ◌∙◌, inl, inr, arith}
 use Rattle.std.specs.Prelude.{IsTrue, All, nat_eq}
-use Rattle.std.specs.List.{AllByRecursion, IsDistinct, list_any}
-use Rattle.std.proofs.lemmas.Bool.{false≢true, eqb-true, eq-eqb}
-use Rattle.std.proofs.lemmas.List.Elements.{recursion_from_All}
+use Rattle.std.specs.List.{IsDistinct, list_any}
+use Rattle.std.proofs.lemmas.Bool.{false≢true, eqb-true}
 use Rattle.anim_names.specs.declared.event.AnimEvent.{AnimEvent}
 use Rattle.keyframe_model.specs.Models.{Spec}
 use Rattle.tree_commit.specs.declared.runs.mark.Mark.{Mark}
@@ -14,7 +13,7 @@ use Rattle.tree_commit.specs.Marks.{event_of, model_of}
 use Rattle.tree_commit.specs.Runs.{model_of_event}
 use Rattle.tree_commit.specs.Trees.{Clock, TreeLists, has_model, origin_of}
 use Rattle.run_laws.proofs.AddedModels.{distinct_within}
-use Rattle.tree_commit.proofs.Among.{among-map, among-without, any-among, any-cases}
+use Rattle.tree_commit.proofs.Among.{among-map, among-without, any-among, any-cases, each-among, one-model}
 use Rattle.host_tests.specs.Steps.{GroupsAgree, OnlyElementsAreNew, adds_elements_alone}
 use Rattle.host_tests.proofs.FirstCommits.{ids_of, ids-have, ids-length}
 
@@ -42,34 +41,12 @@ new_after tree (RemoveModel id) h = record {
   timelines = refl;
 }
 
--- ---- models of one id
-
--- a model among those behind has another id
-other-id : (id : ℕ) (models : List Spec) → AllByRecursion (λ y. nat_eq id y ≡ false) (map (λ (m : Spec). m.id) models)
-    → (model : Spec) → IsAmong model models → nat_eq id model.id ≡ false
-other-id id [] h model a = absurd a
-other-id id (first ∷ models) h model (inl e) = subst (λ (m : Spec). nat_eq id m.id ≡ false) (sym e) h.0
-other-id id (first ∷ models) h model (inr a) = other-id id models h.1 model a
-
-pub one_model : (models : List Spec) → IsDistinct nat_eq (map (λ (m : Spec). m.id) models)
-    → (model twin : Spec) → IsAmong model models → IsAmong twin models → model.id ≡ twin.id → model ≡ twin
-unfolding IsDistinct
-one_model [] apart model twin a b same = absurd a
-one_model (first ∷ models) apart model twin (inl e) (inl f) same = e ∙ sym f
-one_model (first ∷ models) apart model twin (inl e) (inr b) same =
-    absurd (false≢true (sym (other-id first.id models apart.0 twin b)
-    ∙ eq-eqb first.id twin.id (sym (ap (λ (m : Spec). m.id) e) ∙ same)))
-one_model (first ∷ models) apart model twin (inr a) (inl f) same =
-    absurd (false≢true (sym (other-id first.id models apart.0 model a)
-    ∙ eq-eqb first.id model.id (sym (ap (λ (m : Spec). m.id) f) ∙ sym same)))
-one_model (first ∷ models) apart model twin (inr a) (inr b) same = one_model models apart.1 model twin a b same
-
 -- ---- the host may be given the commit
 
 pub follows_next : (old new : TreeLists) (marks : List Mark) → IsDistinct nat_eq (map (λ (m : Spec). m.id) old.models)
     → OnlyElementsAreNew old new → GroupsAgree new → Follows old new marks
 follows_next old new marks apart few agree = record {
-  one_model = λ model twin there other same. one_model old.models apart model twin there (few.models twin other) same;
+  one_model = λ model twin there other same. one-model old.models model twin apart there (few.models twin other) same;
   marked = λ model there has. few.models model there;
   group_there = λ model there has. few.models model there;
   group_started = λ model there has. few.models model there;
@@ -79,12 +56,6 @@ follows_next old new marks apart few agree = record {
     ap (λ (clocks : List Clock). origin_of (record old { timelines = clocks }) id) few.timelines,
   );
 }
-
--- what is true of each is true of one among them
-each-among : {A : Type 0} (P : A → Type 0) (x : A) (xs : List A) → AllByRecursion P xs → IsAmong x xs → P x
-each-among P x [] h a = absurd a
-each-among P x (y ∷ ys) h (inl e) = subst P (sym e) h.0
-each-among P x (y ∷ ys) h (inr a) = each-among P x ys h.1 a
 
 event-model : (mark : Mark) → model_of_event (event_of mark) ≡ model_of mark
 event-model (Started model group element property at start) = refl
@@ -98,7 +69,7 @@ marks-known : (tree : TreeLists) (marks : List Mark)
 marks-known tree marks told id has =
     let found = any-cases (λ (mark : Mark). id == model_of mark) marks has in
     let P : AnimEvent → Type 0 = λ event. IsTrue (has_model tree (model_of_event event)) in
-    let there = each-among P (event_of found.0) (map event_of marks) (recursion_from_All P (map event_of marks) told)
+    let there = each-among P (event_of found.0) (map event_of marks) told
     (among-map event_of found.0 marks found.1) in
     subst (λ (n : ℕ). has_model tree n ≡ true) (event-model found.0 ∙ sym (eqb-true id (model_of found.0) found.2)) there
 

@@ -5,28 +5,28 @@ use Rattle.micro_time.specs.declared.TheConstants.{LARGEST_LOCAL}
 use Rattle.tree_commit.specs.Follows.{IsAmong}
 use Rattle.tree_commit.specs.Tables.{has_timeline}
 use Rattle.tree_commit.specs.Trees.{Committed, local_time}
+use Rattle.tree_commit.proofs.Among.{each-found}
 use Rattle.active_tree.specs.Samples.{counts_with}
 use Rattle.active_tree.proofs.CountLemmas.{counts-more}
-use Rattle.active_tree.proofs.KeptLemmas.{all-found}
 use Rattle.active_tree.proofs.sampling.sample_list.Goals as goal
 
 pub samples_with-requires-clause-there : goal.samples_with-requires-clause-there
 samples_with-requires-clause-there g c =
     subst (λ (t : Committed). IsAmong c.at.result.now t.tree.models) (sym c.loop-i.invariant.0)
-    (all-found (λ model. IsAmong model c.args.sampled.now.tree.models) c.args.list.now c.loop-i.i c.at.result.now c.requires.there c.at.ensures)
+    (each-found (λ model. IsAmong model c.args.sampled.now.tree.models) c.at.result.now c.args.list.now c.loop-i.i c.requires.there c.at.ensures)
 
 pub samples_with-requires-clause-timeline_there : goal.samples_with-requires-clause-timeline_there
 samples_with-requires-clause-timeline_there g c =
     subst (λ (t : Committed). IsTrue (has_timeline t.tree c.at.result.now.timeline)) (sym c.loop-i.invariant.0)
-    (all-found (λ model. IsTrue (has_timeline c.args.sampled.now.tree model.timeline)) c.args.list.now c.loop-i.i c.at.result.now c.requires.timelines_there c.at.ensures)
+    (each-found (λ model. IsTrue (has_timeline c.args.sampled.now.tree model.timeline)) c.at.result.now c.args.list.now c.loop-i.i c.requires.timelines_there c.at.ensures)
 
 pub samples_with-requires-clause-local : goal.samples_with-requires-clause-local
 samples_with-requires-clause-local g c =
     let shown = g.S.StartTable.starts c.args.starts.now in
     subst (λ (t : Committed). IfSome (shown c.at.result.now.id) (λ s. unsigned_abs (local_time t.tree c.args.time c.at.result.now s.start) ≤ LARGEST_LOCAL))
     (sym c.loop-i.invariant.0)
-    (all-found (λ model. IfSome (shown model.id) (λ s. unsigned_abs (local_time c.args.sampled.now.tree c.args.time model s.start) ≤ LARGEST_LOCAL))
-    c.args.list.now c.loop-i.i c.at.result.now c.requires.locals c.at.ensures)
+    (each-found (λ model. IfSome (shown model.id) (λ s. unsigned_abs (local_time c.args.sampled.now.tree c.args.time model s.start) ≤ LARGEST_LOCAL))
+    c.at.result.now c.args.list.now c.loop-i.i c.requires.locals c.at.ensures)
 
 pub loop-i-preserved : goal.loop-i-preserved
 loop-i-preserved g c =

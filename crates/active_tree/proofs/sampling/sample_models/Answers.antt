@@ -6,7 +6,7 @@ use Rattle.micro_time.specs.declared.TheConstants.{LARGEST_LOCAL}
 use Rattle.tree_commit.specs.Tables.{HasAllTimelines, has_timeline}
 use Rattle.tree_commit.specs.Trees.{Committed, local_time}
 use Rattle.tree_commit.specs.Follows.{IsAmong}
-use Rattle.active_tree.proofs.KeptLemmas.{all-are-among}
+use Rattle.tree_commit.proofs.Among.{all-are-among}
 use Rattle.active_tree.proofs.CountLemmas.{animated-counts, all-on}
 use Rattle.active_tree.proofs.sampling.sample_models.Goals as goal
 

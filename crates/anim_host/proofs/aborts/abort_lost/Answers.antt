@@ -6,10 +6,11 @@ use Rattle.tree_commit.specs.declared.runs.mark.Mark.TheVariants.{Aborted}
 use Rattle.tree_commit.specs.Marks.{is_ended, is_lost, is_started, marks_of_activation}
 use Rattle.tree_commit.specs.Trees.{Committed, has_element, has_model}
 use Rattle.tree_commit.specs.Follows.{IsAmong}
+use Rattle.tree_commit.proofs.Among.{among-found}
 use Rattle.host_tables.specs.MarkLists.{mark_if}
 use Rattle.anim_host.specs.Standing.{Stood, with_new}
 use Rattle.host_tables.specs.States.{is_among}
-use Rattle.host_tables.proofs.AmongLemmas.{among-left, apart-behind, found-among}
+use Rattle.host_tables.proofs.AmongLemmas.{among-left, apart-behind}
 use Rattle.anim_host.proofs.GrowLemmas.{gives-if, growing-last, growing-next, one-if}
 use Rattle.host_tables.proofs.StateLemmas.{abort-elsewhere}
 use Rattle.anim_host.proofs.aborts.abort_lost.Goals as goal
@@ -25,7 +26,7 @@ pub abort_one-requires-clause-there : goal.abort_one-requires-clause-there
 abort_one-requires-clause-there c =
     subst (λ (s : Committed). IsAmong c.deref.result.now s.tree.models) (c.requires.active ∙ sym c.loop-index.invariant.0.active)
     (subst (λ (m : Spec). IsAmong m c.args.active.now.tree.models) (sym c.deref.ensures)
-    (found-among c.args.active.now.tree.models c.loop-index.index c.model_at.result.now.value c.model_at.ensures))
+    (among-found c.model_at.result.now.value c.args.active.now.tree.models c.loop-index.index c.model_at.ensures))
 
 pub loop-index-preserved : goal.loop-index-preserved
 loop-index-preserved c =

@@ -5,8 +5,8 @@ use Rattle.keyframe_model.specs.Models.{Spec}
 use Rattle.keyframe_effect.specs.Groups.{one_if}
 use Rattle.tree_commit.specs.Marks.{is_running}
 use Rattle.tree_commit.specs.Trees.{has_model}
+use Rattle.tree_commit.proofs.Among.{among-has}
 use Rattle.host_tables.specs.Groups.{group_row_of}
-use Rattle.host_tables.proofs.AmongLemmas.{among-there}
 use Rattle.anim_host.proofs.TellLemmas.{no-members, others-run}
 use Rattle.anim_host.proofs.ends.others_run.Goals as goal
 
@@ -21,7 +21,7 @@ returns-in-None c =
 pub state-requires : goal.state-requires
 state-requires c =
     let tree = c.args.standing.now.active.tree in
-    ap (has_model tree) c.id.ensures.value ∙ among-there tree.models c.args.model.now c.requires.there
+    ap (has_model tree) c.id.ensures.value ∙ among-has c.args.model.now tree.models c.requires.there
 
 pub returns-in-Some : goal.returns-in-Some
 returns-in-Some c =

@@ -6,9 +6,9 @@ use Rattle.keyframe_model.specs.Models.{Spec}
 use Rattle.tree_commit.specs.Marks.{is_over, is_running, start_of}
 use Rattle.tree_commit.specs.Tables.{has_timeline}
 use Rattle.tree_commit.specs.Follows.{IsAmong}
+use Rattle.tree_commit.proofs.Among.{among-found, each-found}
 use Rattle.host_tables.specs.Shapes.{at_places}
 use Rattle.anim_host.specs.Standing.{Stood}
-use Rattle.host_tables.proofs.AmongLemmas.{all-at, found-among}
 use Rattle.host_tables.proofs.LoopLemmas.{all-next}
 use Rattle.host_tables.proofs.ShapeLemmas.{all-places}
 use Rattle.anim_host.proofs.finish.are_over.Goals as goal
@@ -16,7 +16,7 @@ use Rattle.anim_host.proofs.finish.are_over.Goals as goal
 pub is_over_or_still-over-requires-clause-there : goal.is_over_or_still-over-requires-clause-there
 is_over_or_still-over-requires-clause-there c =
     subst (λ (m : Spec). IsAmong m c.args.active.now.tree.models) (sym c.deref.ensures)
-    (found-among c.args.active.now.tree.models (get_or c.args.places.now c.loop-index.index 0) c.model_at.result.now.value c.model_at.ensures)
+    (among-found c.model_at.result.now.value c.args.active.now.tree.models (get_or c.args.places.now c.loop-index.index 0) c.model_at.ensures)
 
 pub is_over_or_still-over-requires-clause-active : goal.is_over_or_still-over-requires-clause-active
 is_over_or_still-over-requires-clause-active c = c.requires.active ∙ ap (λ (s : Stood). s.active) (sym c.loop-index.invariant.0)
@@ -27,8 +27,8 @@ is_over_or_still-over-requires-clause-last c = ap (λ (s : Stood). s.last_tick) 
 pub is_over_or_still-over-requires-clause-timeline_there : goal.is_over_or_still-over-requires-clause-timeline_there
 is_over_or_still-over-requires-clause-timeline_there c =
     subst (λ (m : Spec). IsTrue (has_timeline c.args.active.now.tree m.timeline)) (sym c.deref.ensures)
-    (all-at (λ (m : Spec). IsTrue (has_timeline c.args.active.now.tree m.timeline)) c.args.active.now.tree.models
-    (get_or c.args.places.now c.loop-index.index 0) c.model_at.result.now.value c.requires.timelines_there c.model_at.ensures)
+    (each-found (λ (m : Spec). IsTrue (has_timeline c.args.active.now.tree m.timeline)) c.model_at.result.now.value
+    c.args.active.now.tree.models (get_or c.args.places.now c.loop-index.index 0) c.requires.timelines_there c.model_at.ensures)
 
 pub loop-index-preserved : goal.loop-index-preserved
 loop-index-preserved c =

@@ -2,9 +2,9 @@ use Rattle.std.proofs.Common.{◌≡◌, ◌≢◌, ℕ, List, Some, arith, ap, 
 use Rattle.std.specs.Prelude.{option_map}
 use Rattle.std.proofs.lemmas.List.{take_all}
 use Rattle.keyframe_model.specs.Models.{Spec}
+use Rattle.tree_commit.proofs.Among.{among-found}
 use Rattle.host_tables.specs.Rows.{joined, marked_at, marked_row, row_at, says_over}
 use Rattle.host_tables.specs.States.{row_for}
-use Rattle.host_tables.proofs.AmongLemmas.{found-among}
 use Rattle.host_tables.proofs.MarkedLemmas.{over-back, row-marked-joined, row-over-joined}
 use Rattle.anim_host.proofs.StandLemmas.{joined-next}
 use Rattle.anim_host.proofs.standing.join_pending.Goals as goal
@@ -25,7 +25,7 @@ loop-index-preserved c =
       omega arith,
       λ active marks waits stand.
           joined-next (marked_at now) (marked_at new) active c.args.commit.now.tree.models marks c.loop-index.index model
-          c.model_at.ensures (waits model (found-among c.args.commit.now.tree.models c.loop-index.index model c.model_at.ensures))
+          c.model_at.ensures (waits model (among-found model c.args.commit.now.tree.models c.loop-index.index c.model_at.ensures))
           (ap (option_map marked_row) here ∙ row-marked-joined model.id (row_at now model.id))
           (λ id differ. ap (option_map marked_row) (others id differ))
           (c.loop-index.invariant.1 active marks waits stand),

@@ -8,10 +8,10 @@ use Rattle.tree_commit.specs.Follows.{IsAmong}
 use Rattle.tree_commit.specs.Marks.{blocks, is_ended, is_group_running, recorded_start, start_mark, starts_in}
 use Rattle.tree_commit.specs.Tables.{has_timeline}
 use Rattle.tree_commit.specs.Trees.{time_of}
+use Rattle.tree_commit.proofs.Among.{among-found, each-found}
 use Rattle.anim_host.specs.Fits.{MayStartIn}
 use Rattle.host_tables.specs.Shapes.{at_places}
 use Rattle.anim_host.specs.Standing.{Stood, with_new}
-use Rattle.host_tables.proofs.AmongLemmas.{all-at, found-among}
 use Rattle.anim_host.proofs.BlockLemmas.{alive-same, blocks-elsewhere}
 use Rattle.anim_host.proofs.GrowLemmas.{growing-last, growing-next, growing-start}
 use Rattle.anim_host.proofs.SettleLemmas.{at-among, start-whole, waits-whole}
@@ -31,7 +31,7 @@ start_one-requires-clause-active c = c.requires.active ∙ sym c.loop-index.inva
 pub start_one-requires-clause-there : goal.start_one-requires-clause-there
 start_one-requires-clause-there c =
     subst (λ (m : Spec). IsAmong m c.args.active.now.tree.models) (sym c.deref.ensures)
-    (found-among c.args.active.now.tree.models (get_or c.args.places.now c.loop-index.index 0) c.model_at.result.now.value c.model_at.ensures)
+    (among-found c.model_at.result.now.value c.args.active.now.tree.models (get_or c.args.places.now c.loop-index.index 0) c.model_at.ensures)
 
 pub start_one-requires-clause-may : goal.start_one-requires-clause-may
 start_one-requires-clause-may c =
@@ -71,8 +71,8 @@ start_one-requires-clause-room c =
 pub start_one-requires-clause-timeline_there : goal.start_one-requires-clause-timeline_there
 start_one-requires-clause-timeline_there c =
     subst (λ (m : Spec). IsTrue (has_timeline c.args.active.now.tree m.timeline)) (sym c.deref.ensures)
-    (all-at (λ (m : Spec). IsTrue (has_timeline c.args.active.now.tree m.timeline)) c.args.active.now.tree.models
-    (get_or c.args.places.now c.loop-index.index 0) c.model_at.result.now.value c.requires.timelines_there c.model_at.ensures)
+    (each-found (λ (m : Spec). IsTrue (has_timeline c.args.active.now.tree m.timeline)) c.model_at.result.now.value
+    c.args.active.now.tree.models (get_or c.args.places.now c.loop-index.index 0) c.requires.timelines_there c.model_at.ensures)
 
 pub loop-index-preserved : goal.loop-index-preserved
 loop-index-preserved c =

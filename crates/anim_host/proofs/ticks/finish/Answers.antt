@@ -7,10 +7,10 @@ use Rattle.tree_commit.specs.declared.runs.mark.Mark.TheVariants.{Finished}
 use Rattle.tree_commit.specs.Follows.{IsAmong}
 use Rattle.tree_commit.specs.Marks.{is_started}
 use Rattle.tree_commit.specs.Trees.{Committed}
+use Rattle.tree_commit.proofs.Among.{among-found}
 use Rattle.anim_host.specs.Fits.{AreSettled}
 use Rattle.host_tables.specs.Shapes.{at_places}
 use Rattle.anim_host.specs.Standing.{Stood, with_new}
-use Rattle.host_tables.proofs.AmongLemmas.{found-among}
 use Rattle.anim_host.proofs.GrowLemmas.{growing-last, growing-next, growing-start}
 use Rattle.anim_host.proofs.SettleLemmas.{at-among, settled-end}
 use Rattle.host_tables.proofs.StateLemmas.{started-grows}
@@ -27,7 +27,7 @@ pub finish_one-requires-clause-there : goal.finish_one-requires-clause-there
 finish_one-requires-clause-there c =
     subst (λ (s : Committed). IsAmong c.deref.result.now s.tree.models) (c.requires.active ∙ sym c.loop-index.invariant.0.active)
     (subst (λ (m : Spec). IsAmong m c.args.active.now.tree.models) (sym c.deref.ensures)
-    (found-among c.args.active.now.tree.models (get_or c.args.places.now c.loop-index.index 0) c.model_at.result.now.value c.model_at.ensures))
+    (among-found c.model_at.result.now.value c.args.active.now.tree.models (get_or c.args.places.now c.loop-index.index 0) c.model_at.ensures))
 
 pub finish_one-requires-clause-started : goal.finish_one-requires-clause-started
 finish_one-requires-clause-started c =

@@ -6,10 +6,11 @@ use Rattle.tree_commit.specs.declared.runs.mark.Mark.TheVariants.{Finished}
 use Rattle.tree_commit.specs.Follows.{IsAmong}
 use Rattle.tree_commit.specs.Marks.{are_over, finish_marks, finishing_models, is_running, marks_of_tick, start_marks}
 use Rattle.tree_commit.specs.Trees.{Committed, groups_of}
+use Rattle.tree_commit.proofs.Among.{among-filter}
 use Rattle.anim_host.specs.Ticks.{finishes}
 use Rattle.host_tables.specs.Shapes.{at_places}
 use Rattle.anim_host.specs.Standing.{Stood, with_new}
-use Rattle.anim_host.proofs.BlockLemmas.{and-first, filter-among}
+use Rattle.anim_host.proofs.BlockLemmas.{and-first}
 use Rattle.anim_host.proofs.GrowLemmas.{two-steps}
 use Rattle.host_tables.proofs.ShapeLemmas.{below-at, filter-fewer, length-places}
 use Rattle.host_tables.proofs.StateLemmas.{running-started}
@@ -19,7 +20,7 @@ pub finish-requires-clause-started : goal.finish-requires-clause-started
 finish-requires-clause-started c = λ (model : Spec) there.
     let tree = c.args.active.now.tree in
     let marks = c.args.standing.now.list.marks in
-    let its = filter-among (finishes tree marks c.args.tick) tree.models model (subst (λ (ms : List Spec). IsAmong model ms) c.requires.models there) in
+    let its = among-filter (finishes tree marks c.args.tick) model tree.models (subst (λ (ms : List Spec). IsAmong model ms) c.requires.models there) in
     running-started marks model.id (and-first (is_running marks model.id) (are_over tree marks c.args.tick model.group) its.1)
 
 pub finish-requires-clause-room : goal.finish-requires-clause-room
