@@ -11,6 +11,3 @@ mod sampled_commit;
 mod sampling;
 
 pub use active::ActiveTree;
-
-#[cfg(test)]
-mod tests;

@@ -11,6 +11,3 @@ pub mod verdict;
 pub use delegate::{Delegate, VerdictFunction};
 pub use policy::Policy;
 pub use verdict::Verdict;
-
-#[cfg(test)]
-mod tests;

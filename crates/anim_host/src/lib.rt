@@ -21,6 +21,3 @@ pub use host::AnimHost;
 
 /// The most keyframe models that a host may be made for: 2^30.
 pub const MOST_HOSTED: u32 = 1 << 30;
-
-#[cfg(test)]
-mod tests;

@@ -20,6 +20,3 @@ pub use lane::{Lane, Tree};
 pub use limit::LimitName;
 pub use progress::ONE;
 pub use property::Property;
-
-#[cfg(test)]
-mod tests;

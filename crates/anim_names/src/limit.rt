@@ -1,7 +1,7 @@
 //! How much a script may hold. The numbers are this project's own.
 
 /// What a script may hold at most a fixed number of.
-#[derive(Clone, Copy, Debug, PartialEq, Eq, Hash)]
+#[derive(Clone, Copy, Debug, PartialEq, Eq)]
 pub enum LimitName {
     /// Steps of one lane: at most [`MOST_STEPS`].
     Steps,

@@ -11,6 +11,3 @@ pub use timeline::Timeline;
 /// The last tick at which a frame may be drawn, at which a timeline may show 0, and from which a model may be told to
 /// count, in microseconds: 2^50, some 35 years.
 pub const LAST_TIME: u64 = 1 << 50;
-
-#[cfg(test)]
-mod tests;

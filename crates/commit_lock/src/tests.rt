@@ -12,14 +12,14 @@ const SECTIONS: u32 = 100;
 
 // The journal has 200 entries. Each lane's are its own, in the order in which it made them.
 fn expect_all(rt: &impl Abort, entries: &[Entry]) {
-    assert_eq!(rt; entries.len(), 200);
+    assert!(rt; entries.len() == 200);
     expect_own(rt, entries, Lane::Main);
     expect_own(rt, entries, Lane::Compositor);
 }
 
 fn expect_own(rt: &impl Abort, entries: &[Entry], lane: Lane) {
     let own = || entries.iter().filter(|entry| entry.lane == lane);
-    assert_eq!(rt; own().count(), 100);
+    assert!(rt; own().count() == 100);
     for (entry, upto) in own().zip(1u32..=SECTIONS) {
         assert_eq!(rt; entry.upto, upto);
     }

@@ -1,7 +1,7 @@
 use thiserror::Error;
 
 /// Why keys make no curve: the first of these that is so.
-#[derive(Clone, Copy, Debug, PartialEq, Eq, Hash, Error)]
+#[derive(Clone, Copy, Debug, PartialEq, Eq, Error)]
 pub enum CurveFault {
     /// There are fewer than [`crate::FEWEST_KEYS`].
     #[error("a curve has at least 2 keys")]

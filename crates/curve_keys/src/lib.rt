@@ -18,6 +18,3 @@ pub const FEWEST_KEYS: usize = 2;
 
 /// The most keys of a curve.
 pub const MOST_KEYS: usize = 16;
-
-#[cfg(test)]
-mod tests;

@@ -14,7 +14,7 @@ use std::marker::Model;
 /// far across. That the place on the curve is a whole number of steps of which there are [`ONE`], the greatest one
 /// that is not past p, and that the height is rounded down, are this project's own.
 #[derive(Clone, Copy)]
-#[derive_where(Debug, PartialEq, Eq, Hash)]
+#[derive_where(Debug, PartialEq, Eq)]
 pub struct CubicShape {
     x1: u32,
     y1: i32,

@@ -1,7 +1,7 @@
 use thiserror::Error;
 
 /// Why numbers make no easing.
-#[derive(Clone, Copy, Debug, PartialEq, Eq, Hash, Error)]
+#[derive(Clone, Copy, Debug, PartialEq, Eq, Error)]
 pub enum EasingFault {
     /// There are 1 to [`crate::MOST_INTERVALS`] intervals, and at least 2 where nothing jumps at the ends.
     #[error("the number of steps is out of range")]

@@ -33,6 +33,3 @@ pub const END: u32 = 1_000_000;
 
 /// The largest size of how high a control point is: ten times [`END`].
 pub const LARGEST_Y: u32 = 10_000_000;
-
-#[cfg(test)]
-mod tests;

@@ -116,7 +116,7 @@ fn a_memory_sink_takes_small_parts_and_fails_where_it_is_told(rt: HostRuntime) -
         assert!(rt; !piece.is_empty());
         assert_eq!(rt; sink.write(piece), want);
     }
-    assert_eq!(rt; sink.taken(), b"abcdefg".as_slice());
+    assert!(rt; sink.taken() == b"abcdefg".as_slice());
     Ok(())
 }
 
@@ -133,8 +133,8 @@ fn a_memory_sink_fails_where_its_room_is_full(rt: HostRuntime) -> Result<(), Fai
         assert!(rt; !piece.is_empty());
         assert_eq!(rt; sink.write(piece), want);
     }
-    assert_eq!(rt; sink.taken().len(), room);
-    assert_eq!(rt; sink.taken().last(), Some(&b'a'));
+    assert!(rt; sink.taken().len() == room);
+    assert!(rt; sink.taken().last() == Some(&b'a'));
     Ok(())
 }
 
@@ -152,7 +152,7 @@ fn written(alloc: Global, text: &[u8]) -> Result<SteadySink, AllocError>
 
 #[test]
 fn a_steady_sink_tells_a_text_that_fits(rt: HostRuntime) -> Result<(), Fail> {
-    assert_eq!(rt; written(rt.alloc(), b"abcd")?.taken(), b"abcd".as_slice());
+    assert!(rt; written(rt.alloc(), b"abcd")?.taken() == b"abcd".as_slice());
     Ok(())
 }
 
@@ -177,9 +177,9 @@ fn a_steady_sink_keeps_a_piece_that_fits_after_one_that_did_not(
     rt: HostRuntime,
 ) -> Result<(), Fail> {
     let mut sink = SteadySink::new(rt.alloc(), 4)?;
-    assert_eq!(rt; sink.write(b"abcde"), Ok(5));
-    assert_eq!(rt; sink.write(b"fghi"), Ok(4));
-    assert_eq!(rt; sink.taken(), b"fghi".as_slice());
+    assert!(rt; sink.write(b"abcde") == Ok(5));
+    assert!(rt; sink.write(b"fghi") == Ok(4));
+    assert!(rt; sink.taken() == b"fghi".as_slice());
     assert!(rt; !sink.is_whole());
     Ok(())
 }
@@ -188,13 +188,13 @@ fn a_steady_sink_keeps_a_piece_that_fits_after_one_that_did_not(
 fn the_adapters_move_the_bytes_of_their_reader_and_writer(rt: HostRuntime) -> Result<(), Fail> {
     let mut source = StdSource::new(b"abcde".as_slice());
     let mut into = [0u8; 3];
-    assert_eq!(rt; source.read(&mut into), Ok(3));
-    assert_eq!(rt; into.as_slice(), b"abc".as_slice());
-    assert_eq!(rt; source.into_inner(), b"de".as_slice());
+    assert!(rt; source.read(&mut into) == Ok(3));
+    assert!(rt; into.as_slice() == b"abc".as_slice());
+    assert!(rt; source.into_inner() == b"de".as_slice());
     let mut sink = StdSink::new(Vec::new(rt.alloc()));
-    assert_eq!(rt; sink.write(&into), Ok(3));
-    assert_eq!(rt; sink.write(b"d"), Ok(1));
-    assert_eq!(rt; sink.into_inner().as_slice(), b"abcd".as_slice());
+    assert!(rt; sink.write(&into) == Ok(3));
+    assert!(rt; sink.write(b"d") == Ok(1));
+    assert!(rt; sink.into_inner().as_slice() == b"abcd".as_slice());
     Ok(())
 }
 

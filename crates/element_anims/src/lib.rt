@@ -8,6 +8,3 @@ mod row;
 mod table;
 
 pub use table::ElementAnims;
-
-#[cfg(test)]
-mod tests;

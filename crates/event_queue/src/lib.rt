@@ -7,6 +7,3 @@
 mod queue;
 
 pub use queue::EventQueue;
-
-#[cfg(test)]
-mod tests;

@@ -15,6 +15,3 @@ mod word;
 pub use board::{Board, PendingSlot};
 pub use compositor_steps::CompositorSteps;
 pub use main_steps::MainSteps;
-
-#[cfg(test)]
-mod tests;

@@ -14,6 +14,3 @@ pub mod worked;
 pub use report::Report;
 pub use summary::print_summary;
 pub use texts::print_report;
-
-#[cfg(test)]
-mod tests;

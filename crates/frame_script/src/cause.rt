@@ -2,7 +2,7 @@ use thiserror::Error;
 use tree_commit::EditRefusal;
 
 /// What is wrong with a script.
-#[derive(Clone, Copy, Debug, PartialEq, Eq, Hash, Error)]
+#[derive(Clone, Copy, Debug, PartialEq, Eq, Error)]
 pub enum Cause {
     /// The step may not be made where it stands. A limit of steps, of commits or of frames is among these.
     #[error("{0}")]

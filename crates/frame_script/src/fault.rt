@@ -8,7 +8,7 @@ use std::alloc::AllocError;
 use thiserror::Error;
 
 /// Why a script could not be read.
-#[derive(Clone, Copy, Debug, PartialEq, Eq, Hash, Error)]
+#[derive(Clone, Copy, Debug, PartialEq, Eq, Error)]
 pub enum ScriptFault {
     /// It is refused: the first line that is, counted from 1, and its cause. The line is 0 where the script is too
     /// long, and one more than there are where a part is missing.

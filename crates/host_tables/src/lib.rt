@@ -21,6 +21,3 @@ pub use shape::Shape;
 /// The most marks that a list keeps: 2^32, so that the index of each is a `u32`. Two for each of the most keyframe
 /// models of a host are fewer.
 pub const MOST_MARKS: usize = 1 << 32;
-
-#[cfg(test)]
-mod tests;

@@ -9,7 +9,11 @@ mod frames;
 #[cfg(test)]
 mod host;
 #[cfg(test)]
+mod rows;
+#[cfg(test)]
 mod second_commit;
+#[cfg(test)]
+mod sharing;
 #[cfg(test)]
 mod steps;
 #[cfg(test)]

@@ -12,6 +12,3 @@ mod state;
 pub use group::GroupRow;
 pub use model::ModelRow;
 pub use state::RunState;
-
-#[cfg(test)]
-mod tests;

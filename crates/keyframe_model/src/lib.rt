@@ -10,6 +10,3 @@ pub mod worked;
 
 pub use curve::{CurveOf, Value};
 pub use model::ModelSpec;
-
-#[cfg(test)]
-mod tests;

@@ -8,6 +8,3 @@
 mod tree;
 
 pub use tree::MainTree;
-
-#[cfg(test)]
-mod tests;

@@ -1,7 +1,7 @@
 use thiserror::Error;
 
 /// A number of a timing, in the order in which they are judged.
-#[derive(Clone, Copy, Debug, PartialEq, Eq, Hash)]
+#[derive(Clone, Copy, Debug, PartialEq, Eq)]
 pub enum TimingField {
     /// 1 to [`crate::LONGEST_DURATION`] microseconds.
     Duration,
@@ -16,7 +16,7 @@ pub enum TimingField {
 }
 
 /// Why numbers make no timing.
-#[derive(Clone, Copy, Debug, PartialEq, Eq, Hash, Error)]
+#[derive(Clone, Copy, Debug, PartialEq, Eq, Error)]
 pub enum TimingFault {
     /// This field is the first that is outside of its range.
     #[error("out of range: {0:?}")]

@@ -38,6 +38,3 @@ pub const LARGEST_RATE: u32 = 1_000_000;
 
 /// The largest size of a local time, in microseconds: 2^52.
 pub const LARGEST_LOCAL: u64 = 1 << 52;
-
-#[cfg(test)]
-mod tests;

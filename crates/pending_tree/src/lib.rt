@@ -7,6 +7,3 @@
 mod pending;
 
 pub use pending::PendingTree;
-
-#[cfg(test)]
-mod tests;

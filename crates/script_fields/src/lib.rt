@@ -20,6 +20,3 @@ pub use fault::FieldFault;
 pub use fields::{fields_of, is};
 pub use lists::{list_read, list_said};
 pub use numbers::{integer_within, natural_within, number_said};
-
-#[cfg(test)]
-mod tests;

@@ -16,6 +16,3 @@ pub use generated::generate;
 
 /// The largest number that a script is made from: its ticks times its elements are then 160,000.
 pub const MOST_GENERATED: u32 = 200;
-
-#[cfg(test)]
-mod tests;

@@ -18,6 +18,3 @@ pub use key_line::key_said;
 pub use key_value::KeyValue;
 pub use main_line::step_said;
 pub use model_line::model_said;
-
-#[cfg(test)]
-mod tests;

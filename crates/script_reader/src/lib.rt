@@ -11,6 +11,3 @@ mod reader;
 mod reading;
 
 pub use reading::read_script;
-
-#[cfg(test)]
-mod tests;

@@ -7,6 +7,3 @@
 mod side;
 
 pub use side::CompositorSide;
-
-#[cfg(test)]
-mod tests;

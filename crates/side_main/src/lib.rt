@@ -8,6 +8,3 @@ mod hearing;
 mod side;
 
 pub use side::MainSide;
-
-#[cfg(test)]
-mod tests;

@@ -1,7 +1,7 @@
 use thiserror::Error;
 
 /// Why operations make no list.
-#[derive(Clone, Copy, Debug, PartialEq, Eq, Hash, Error)]
+#[derive(Clone, Copy, Debug, PartialEq, Eq, Error)]
 pub enum ListFault {
     /// There are more than [`crate::MOST_OPERATIONS`].
     #[error("a list has at most 8 operations")]

@@ -19,6 +19,3 @@ pub const MOST_OPERATIONS: usize = 8;
 
 /// The number for 1 in a scale, in millionths: it leaves the size as it is.
 pub const SAME_SIZE: i64 = 1_000_000;
-
-#[cfg(test)]
-mod tests;

@@ -27,6 +27,3 @@ pub use runs::samples::Samples;
 pub use runs::sampling::sample_element;
 pub use runs::shown::Shown;
 pub use runs::start_table::StartTable;
-
-#[cfg(test)]
-mod tests;

@@ -23,6 +23,3 @@ pub const LARGEST_NUMBER: u64 = 1 << 40;
 
 /// The opacity of what hides all behind it, in millionths.
 pub const FULL_OPACITY: u32 = 1_000_000;
-
-#[cfg(test)]
-mod tests;

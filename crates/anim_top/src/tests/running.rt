@@ -79,6 +79,15 @@ heard 0
 end
 ";
 
+fn is_shared<T: Send + Sync>() {}
+
+// Threads may share both sides, whatever the hooks' functions are, where they may share these. The check of the types is
+// the test.
+fn sides_are_shared<'h, F: VerdictFunction + Sync + 'h, E: EasingFunction + Sync + 'h>() {
+    is_shared::<MainSide<'h, F>>();
+    is_shared::<CompositorSide<'h, E>>();
+}
+
 #[test]
 fn scripts_with_one_order_fill_a_steady_sink(rt: HostRuntime) -> Result<(), Fail> {
     let alloc = rt.alloc();

@@ -2,7 +2,7 @@ use anim_names::LimitName;
 use thiserror::Error;
 
 /// Why an edit is refused: the first of these that is so.
-#[derive(Clone, Copy, Debug, PartialEq, Eq, Hash, Error)]
+#[derive(Clone, Copy, Debug, PartialEq, Eq, Error)]
 pub enum EditRefusal {
     /// An element is added that is in the tree.
     #[error("the element is there already")]

@@ -1,5 +1,5 @@
 /// One step of the compositor.
-#[derive(Clone, Copy, Debug, PartialEq, Eq, Hash)]
+#[derive(Clone, Copy, Debug, PartialEq, Eq)]
 pub enum CompositorStep {
     /// Take the newest commit as the pending one, where none is pending.
     Pull,

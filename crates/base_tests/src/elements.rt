@@ -1,24 +1,14 @@
-use super::*;
+//! Which elements are there, and what blocks their properties.
+
+use crate::builders::block;
 use anim_names::{ElementId, GroupId, Property, Tree};
+use element_anims::ElementAnims;
 use std::process::Abort;
 use std::test::Fail;
-
-fn is_shared<T: Send + Sync>() {}
-
-#[test]
-fn tables_cross_threads() {
-    is_shared::<row::ElementRow>();
-    is_shared::<ElementAnims>();
-}
 
 fn put(rt: &impl Abort, table: &mut ElementAnims, tree: Tree, element: u32) {
     assert!(rt; table.spare() > 0);
     table.set_present(tree, ElementId(element), true);
-}
-
-fn block(rt: &impl Abort, table: &mut ElementAnims, property: Property, group: u32) {
-    assert!(rt; table.spare() > 0 && table.blocked_by(ElementId(1), property).is_none());
-    table.block(ElementId(1), property, GroupId(group));
 }
 
 #[test]
@@ -39,8 +29,8 @@ fn an_element_is_in_the_trees_that_it_was_put_in(rt: HostRuntime) -> Result<(), 
 fn a_property_is_blocked_until_it_is_freed(rt: HostRuntime) -> Result<(), Fail> {
     let mut table = ElementAnims::new(rt.alloc())?;
     table.reserve(3)?;
-    block(&rt, &mut table, Property::Opacity, 7);
-    block(&rt, &mut table, Property::Transform, 8);
+    block(&rt, &mut table, 1, Property::Opacity, 7);
+    block(&rt, &mut table, 1, Property::Transform, 8);
     assert!(rt; table.blocked_by(ElementId(1), Property::Opacity) == Some(GroupId(7)));
     table.unblock(ElementId(1), Property::Opacity);
     assert!(rt; table.blocked_by(ElementId(1), Property::Opacity).is_none());

@@ -1,14 +1,9 @@
-use super::*;
+//! Events in order.
+
 use anim_names::{AnimEvent, ModelId};
+use event_queue::EventQueue;
 use std::process::Abort;
 use std::test::Fail;
-
-fn is_shared<T: Send + Sync>() {}
-
-#[test]
-fn a_queue_crosses_threads() {
-    is_shared::<EventQueue>();
-}
 
 fn finished(model: u32) -> AnimEvent {
     AnimEvent::Finished {

@@ -1,17 +1,10 @@
-use super::*;
+//! The rows of models that the host keeps.
+
 use anim_names::ModelId;
+use host_tables::RowTable;
 use keyframe_effect::{ModelRow, RunState};
 use std::alloc::AllocError;
 use std::test::Fail;
-
-fn is_shared<T: Send + Sync>() {}
-
-#[test]
-fn types_are_shared_between_threads() {
-    is_shared::<RowTable>();
-    is_shared::<Shape>();
-    is_shared::<MarkList>();
-}
 
 // Model 1 is in the active commit and model 2 in the pending one, as both leave the active one.
 fn leave(rows: &mut RowTable) -> Result<(), AllocError> {

@@ -1,6 +1,8 @@
-use super::*;
+//! Scripts that are read, and scripts that are refused: at which line, and why.
+
 use anim_names::{Lane, LimitName};
 use frame_script::{Cause, MOST_BYTES, Script, ScriptFault};
+use script_reader::read_script;
 use std::alloc::{AllocError, Global};
 use std::process::Abort;
 use std::test::Fail;
@@ -186,15 +188,6 @@ fn changed(alloc: Global, change: Change) -> Result<String, AllocError> {
 // At which line bytes are refused, and why.
 fn fault(alloc: Global, bytes: &[u8]) -> Option<ScriptFault> {
     read_script(alloc, bytes).err()
-}
-
-fn is_shared<T: Send + Sync>() {}
-
-#[test]
-fn types_are_shared_between_threads() {
-    is_shared::<Script>();
-    is_shared::<ScriptFault>();
-    is_shared::<Cause>();
 }
 
 #[test]

@@ -1,18 +1,13 @@
-use super::*;
+//! What a line says by its fields.
+
 use anim_delegate::Policy;
 use anim_names::{ElementId, Lane, ModelId, Property};
 use frame_script::Cause;
 use script_fields::fields_of;
+use script_lines::{LineFault, compositor_said, key_said, model_said, step_said, word_said};
 use std::test::Fail;
 use tree_commit::{CompositorStep, Edit, MainStep};
 use value_blend::Opacity;
-
-fn is_shared<T: Send + Sync>() {}
-
-#[test]
-fn types_are_shared_between_threads() {
-    is_shared::<LineFault>();
-}
 
 #[test]
 fn a_step_of_main_is_read(rt: HostRuntime) -> Result<(), Fail> {

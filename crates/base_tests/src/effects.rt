@@ -1,19 +1,13 @@
+//! How far a model has come, and whether a group is ready.
+
 ghost use Rattle.std.specs.Prelude.{◌≡◌};
 
-use super::*;
+use crate::builders::block;
 use anim_names::{ElementId, GroupId, ModelId, Property, Tree};
 use element_anims::ElementAnims;
+use keyframe_effect::{GroupRow, ModelRow, RunState};
 use std::process::Abort;
 use std::test::Fail;
-
-fn is_shared<T: Send + Sync>() {}
-
-#[test]
-fn rows_cross_threads() {
-    is_shared::<RunState>();
-    is_shared::<ModelRow>();
-    is_shared::<GroupRow>();
-}
 
 const WAITING: ModelRow = ModelRow {
     model: ModelId(1),
@@ -64,11 +58,6 @@ fn expect_ready(rt: &impl Abort, table: &ElementAnims) {
     assert!(rt; !none_waits.ready(table, false));
 }
 
-fn block(rt: &impl Abort, table: &mut ElementAnims, property: Property, group: u32) {
-    assert!(rt; table.spare() > 0 && table.blocked_by(ElementId(3), property).is_none());
-    table.block(ElementId(3), property, GroupId(group));
-}
-
 #[test]
 fn a_group_is_ready_where_its_element_is_there_and_free(rt: HostRuntime) -> Result<(), Fail> {
     let mut table = ElementAnims::new(rt.alloc())?;
@@ -77,9 +66,9 @@ fn a_group_is_ready_where_its_element_is_there_and_free(rt: HostRuntime) -> Resu
     assert!(rt; table.spare() > 0);
     table.set_present(Tree::Active, ElementId(3), true);
     expect_ready(&rt, &table);
-    block(&rt, &mut table, Property::Transform, 7);
+    block(&rt, &mut table, 3, Property::Transform, 7);
     expect_ready(&rt, &table);
-    block(&rt, &mut table, Property::Opacity, 7);
+    block(&rt, &mut table, 3, Property::Opacity, 7);
     assert!(rt; !ROW.ready(&table, false));
     let own = GroupRow {
         group: GroupId(7),

@@ -1,10 +1,12 @@
-use super::*;
+//! Phases and curve times.
+
+use micro_time::{
+    Direction, Fill, Iterations, LARGEST_LOCAL, Phase, Timing, TimingFault, TimingField,
+};
 use std::process::Abort;
 use std::test::Fail;
 
 const SECOND: u64 = 1_000_000;
-
-fn is_shared<T: Copy + Eq + Send + Sync>() {}
 
 fn second(
     iterations: Iterations,
@@ -32,13 +34,6 @@ fn expect_rows(rt: &impl Abort, timing: &Timing, rows: &[(i64, Option<u64>)]) {
 }
 
 #[test]
-fn types_are_shared_between_threads() {
-    is_shared::<Timing>();
-    is_shared::<TimingFault>();
-    is_shared::<Phase>();
-}
-
-#[test]
 fn two_and_a_half_iterations_end_in_the_middle(rt: HostRuntime) -> Result<(), Fail> {
     let timing = second(
         Iterations::Finite(2500),
@@ -55,9 +50,9 @@ fn two_and_a_half_iterations_end_in_the_middle(rt: HostRuntime) -> Result<(), Fa
         (1 << 52, Some(500_000)),
     ];
     expect_rows(&rt, &timing, &rows);
-    assert_eq!(rt; timing.phase(-1), Phase::Before);
-    assert_eq!(rt; timing.phase(2_499_999), Phase::Active);
-    assert_eq!(rt; timing.phase(2_500_000), Phase::After);
+    assert!(rt; timing.phase(-1) == Phase::Before);
+    assert!(rt; timing.phase(2_499_999) == Phase::Active);
+    assert!(rt; timing.phase(2_500_000) == Phase::After);
     assert!(rt; timing.is_done(2_500_000));
     assert!(rt; !timing.is_done(2_499_999));
     Ok(())
@@ -203,7 +198,7 @@ fn the_first_field_out_of_range_is_refused(rt: HostRuntime) {
         Fill::Both,
         -1000,
     );
-    assert_eq!(rt; reverse, Err(TimingFault::InfiniteReverse));
+    assert!(rt; reverse == Err(TimingFault::InfiniteReverse));
 }
 
 #[test]
@@ -217,14 +212,14 @@ fn a_timing_keeps_its_parts(rt: HostRuntime) -> Result<(), Fail> {
         Fill::Backwards,
         -1_000_000,
     )?;
-    assert_eq!(rt; timing.duration(), 1 << 36);
-    assert_eq!(rt; timing.offset(), -(1 << 40));
-    assert_eq!(rt; timing.iterations(), Iterations::Finite(1_000_000_000));
-    assert_eq!(rt; timing.iteration_start(), 1_000_000);
-    assert_eq!(rt; timing.direction(), Direction::Reverse);
-    assert_eq!(rt; timing.fill(), Fill::Backwards);
-    assert_eq!(rt; timing.rate(), -1_000_000);
+    assert!(rt; timing.duration() == 1 << 36);
+    assert!(rt; timing.offset() == -(1 << 40));
+    assert!(rt; timing.iterations() == Iterations::Finite(1_000_000_000));
+    assert!(rt; timing.iteration_start() == 1_000_000);
+    assert!(rt; timing.direction() == Direction::Reverse);
+    assert!(rt; timing.fill() == Fill::Backwards);
+    assert!(rt; timing.rate() == -1_000_000);
     let again = timing;
-    assert_eq!(rt; timing, again);
+    assert!(rt; timing == again);
     Ok(())
 }

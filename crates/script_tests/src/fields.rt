@@ -1,9 +1,13 @@
-use super::*;
-use crate::keywords::{direction_said, fill_said, iterations_said, policy_said, property_said};
+//! The fields of a line.
+
 use anim_delegate::Policy;
 use anim_names::Property;
 use easing_fixed::{Easing, StepPosition};
 use micro_time::{Direction, Fill, Iterations};
+use script_fields::keywords::{
+    direction_said, fill_said, iterations_said, policy_said, property_said,
+};
+use script_fields::{easing_said, fields_of, integer_within, is, list_said, natural_within};
 use std::test::Fail;
 use transform_ops::TransformOp;
 
@@ -32,18 +36,15 @@ fn numbers_have_one_spelling(rt: HostRuntime) {
             "for {field:?}"
         );
     }
-    assert_eq!(rt;
-        natural_within(b"1125899906842624", 0, 1 << 50),
-        Some(1 << 50)
-    );
-    assert_eq!(rt; natural_within(b"1125899906842625", 0, 1 << 50), None);
+    assert!(rt; natural_within(b"1125899906842624", 0, 1 << 50) == Some(1 << 50));
+    assert!(rt; natural_within(b"1125899906842625", 0, 1 << 50) == None);
 }
 
 #[test]
 fn a_space_more_makes_an_empty_field(rt: HostRuntime) -> Result<(), Fail> {
-    assert_eq!(rt; fields_of(rt.alloc(), b"a b")?.len(), 2);
-    assert_eq!(rt; fields_of(rt.alloc(), b" c ")?.len(), 3);
-    assert_eq!(rt; fields_of(rt.alloc(), b"")?.len(), 1);
+    assert!(rt; fields_of(rt.alloc(), b"a b")?.len() == 2);
+    assert!(rt; fields_of(rt.alloc(), b" c ")?.len() == 3);
+    assert!(rt; fields_of(rt.alloc(), b"")?.len() == 1);
     assert!(rt; is(b"c", "c"));
     assert!(rt; !is(b"c", "c "));
     Ok(())
@@ -51,9 +52,9 @@ fn a_space_more_makes_an_empty_field(rt: HostRuntime) -> Result<(), Fail> {
 
 #[test]
 fn keywords_say_what_they_name(rt: HostRuntime) {
-    assert_eq!(rt; property_said(b"opacity"), Some(Property::Opacity));
-    assert_eq!(rt; property_said(b"transform"), Some(Property::Transform));
-    assert_eq!(rt; property_said(b"Opacity"), None);
+    assert!(rt; property_said(b"opacity") == Some(Property::Opacity));
+    assert!(rt; property_said(b"transform") == Some(Property::Transform));
+    assert!(rt; property_said(b"Opacity") == None);
     for (word, direction) in [
         ("normal", Some(Direction::Normal)),
         ("reverse", Some(Direction::Reverse)),
@@ -80,10 +81,10 @@ fn keywords_say_what_they_name(rt: HostRuntime) {
     ] {
         assert_eq!(rt; policy_said(word.as_bytes()), policy);
     }
-    assert_eq!(rt; iterations_said(b"infinite"), Some(Iterations::Infinite));
-    assert_eq!(rt; iterations_said(b"2500"), Some(Iterations::Finite(2500)));
-    assert_eq!(rt; iterations_said(b"1000000001"), None);
-    assert_eq!(rt; iterations_said(b"Infinite"), None);
+    assert!(rt; iterations_said(b"infinite") == Some(Iterations::Infinite));
+    assert!(rt; iterations_said(b"2500") == Some(Iterations::Finite(2500)));
+    assert!(rt; iterations_said(b"1000000001") == None);
+    assert!(rt; iterations_said(b"Infinite") == None);
 }
 
 #[test]
@@ -151,7 +152,7 @@ fn a_list_is_none_or_operations(rt: HostRuntime) -> Result<(), Fail> {
     let Some(list) = list_said(alloc, fields_of(alloc, line)?.as_slice())? else {
         return Err(Fail::from("the list says nothing"));
     };
-    assert_eq!(rt; list.len(), 4);
+    assert!(rt; list.len() == 4);
     for (i, op) in [
         TransformOp::Translate {
             x: 0,

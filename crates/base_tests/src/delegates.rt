@@ -1,25 +1,18 @@
+//! Which event retires a model.
+
 ghost use Rattle.anim_delegate.specs.Delegates.{MayAsk, FollowsTable};
 
-use super::*;
+use crate::sharing::expect_shared;
+use anim_delegate::{Delegate, Policy, Verdict, VerdictFunction};
 use anim_names::{AnimEvent, GroupId, ModelId};
 use std::process::Abort;
-
-fn is_shared<T: Copy + Eq + Send + Sync>() {}
-
-#[test]
-fn types_are_shared_between_threads() {
-    is_shared::<Policy>();
-    is_shared::<Verdict>();
-}
-
-fn is_sent<T: Send + Sync>(_: &T) {}
 
 fn expect_table<F: VerdictFunction + Send + Sync + Drop>(rt: &impl Abort, function: F)
     requires may_be_called { MayAsk (F.asks function) }
     requires exact { FollowsTable (F.answers function) }
 {
     let delegate = Delegate::new(function);
-    is_sent(&delegate);
+    expect_shared(&delegate);
     let model = ModelId(1);
     let started = AnimEvent::Started {
         model,

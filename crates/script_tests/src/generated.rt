@@ -1,7 +1,8 @@
-//! Scripts that are made from a number, as they are printed.
+//! Scripts that are made from a number, and how they are printed.
 
 use crate::scripts::REVERSED;
-use script_gen::generate;
+use anim_names::Lane;
+use script_gen::{MOST_GENERATED, generate};
 use script_printer::print_script;
 use std::test::Fail;
 
@@ -46,6 +47,26 @@ fn commits_and_drops_stand_where_a_number_divides(rt: HostRuntime) -> Result<(),
     for (number, expected) in OF_EIGHT {
         assert_eq!(rt; line_of(&text, number), expected.as_bytes());
     }
+    Ok(())
+}
+
+// 1 timeline, 3 steps for each of 200 elements, 25 commits and drains among them, 68 steps that drop something, and 2
+// commits and drains; 800 ticks and 200 pulls; 241 rounds.
+#[test]
+fn the_largest_script_is_made(rt: HostRuntime) -> Result<(), Fail> {
+    let script = generate(rt.alloc(), MOST_GENERATED)?;
+    assert!(rt; script.main().len() == 723);
+    assert!(rt; script.compositor().len() == 1200);
+    assert!(rt; script.word().len() == 1923);
+    assert!(rt;
+        script
+            .word()
+            .iter()
+            .take(964)
+            .filter(|lane| **lane == Lane::Main)
+            .count()
+            == 723
+    );
     Ok(())
 }
 

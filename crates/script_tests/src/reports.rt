@@ -1,18 +1,13 @@
-use super::*;
+//! Reports, and how they are printed.
+
 use anim_names::{AnimEvent, ElementId, GroupId, Lane, ModelId};
+use frame_report::{Report, print_report, print_summary};
 use std::alloc::Global;
 use std::sync::Arc;
 use std::test::Fail;
 use transform_ops::{TransformList, TransformOp};
 use tree_commit::{Frame, FrameRow};
 use value_blend::Opacity;
-
-fn is_shared<T: Send + Sync>() {}
-
-#[test]
-fn reports_are_shared_between_threads() {
-    is_shared::<Report>();
-}
 
 // An element that shows an operation of each kind.
 fn moved_row(alloc: Global) -> Result<FrameRow, Fail> {

@@ -1,13 +1,14 @@
+//! Step and cubic easings, and the evaluator that stores a function for them.
+
 ghost use Rattle.easing_fixed.specs.Evaluators.{MayEase, Eases};
 
-use super::*;
+use crate::sharing::expect_shared;
 use anim_names::ONE;
+use easing_fixed::{
+    CubicShape, Easing, EasingFault, EasingFunction, Evaluator, StepPosition, StepShape,
+};
 use std::process::Abort;
 use std::test::Fail;
-
-fn is_shared<T: Copy + Eq + Send + Sync>() {}
-
-fn is_sent<T: Send + Sync>(_: &T) {}
 
 fn expect_rows(rt: &impl Abort, easing: &Easing, rows: &[(u32, i64)]) {
     for (p, want) in rows {
@@ -17,20 +18,12 @@ fn expect_rows(rt: &impl Abort, easing: &Easing, rows: &[(u32, i64)]) {
     }
 }
 
-#[test]
-fn types_are_shared_between_threads() {
-    is_shared::<Easing>();
-    is_shared::<EasingFault>();
-    is_shared::<StepShape>();
-    is_shared::<CubicShape>();
-}
-
 fn expect_eased<E: EasingFunction + Send + Sync + Drop>(rt: &impl Abort, function: E)
     requires may_be_called { MayEase (E.asks function) }
     requires exact { Eases (E.answers function) }
 {
     let evaluator = Evaluator::new(function);
-    is_sent(&evaluator);
+    expect_shared(&evaluator);
     assert!(rt; evaluator.ease(&Easing::ease_out(), 359_137) == 524_286);
     assert!(rt; evaluator.ease(&Easing::step_end(), 524_288) == 0);
 }
@@ -126,30 +119,12 @@ fn control_numbers_out_of_range_are_refused(rt: HostRuntime) {
 
 #[test]
 fn keywords_are_their_curves(rt: HostRuntime) -> Result<(), Fail> {
-    assert_eq!(rt;
-        Easing::ease(),
-        Easing::cubic(250_000, 100_000, 250_000, 1_000_000)?
-    );
-    assert_eq!(rt;
-        Easing::ease_in(),
-        Easing::cubic(420_000, 0, 1_000_000, 1_000_000)?
-    );
-    assert_eq!(rt;
-        Easing::ease_out(),
-        Easing::cubic(0, 0, 580_000, 1_000_000)?
-    );
-    assert_eq!(rt;
-        Easing::ease_in_out(),
-        Easing::cubic(420_000, 0, 580_000, 1_000_000)?
-    );
-    assert_eq!(rt;
-        Easing::step_start(),
-        Easing::steps(1, StepPosition::JumpStart)?
-    );
-    assert_eq!(rt;
-        Easing::step_end(),
-        Easing::steps(1, StepPosition::JumpEnd)?
-    );
+    assert!(rt; Easing::ease() == Easing::cubic(250_000, 100_000, 250_000, 1_000_000)?);
+    assert!(rt; Easing::ease_in() == Easing::cubic(420_000, 0, 1_000_000, 1_000_000)?);
+    assert!(rt; Easing::ease_out() == Easing::cubic(0, 0, 580_000, 1_000_000)?);
+    assert!(rt; Easing::ease_in_out() == Easing::cubic(420_000, 0, 580_000, 1_000_000)?);
+    assert!(rt; Easing::step_start() == Easing::steps(1, StepPosition::JumpStart)?);
+    assert!(rt; Easing::step_end() == Easing::steps(1, StepPosition::JumpEnd)?);
     assert_ne!(rt; Easing::step_end(), Easing::Linear);
     Ok(())
 }
@@ -157,12 +132,12 @@ fn keywords_are_their_curves(rt: HostRuntime) -> Result<(), Fail> {
 #[test]
 fn shapes_keep_their_parts(rt: HostRuntime) -> Result<(), Fail> {
     let steps = StepShape::new(1_000_000, StepPosition::JumpBoth)?;
-    assert_eq!(rt; steps.count(), 1_000_000);
-    assert_eq!(rt; steps.position(), StepPosition::JumpBoth);
+    assert!(rt; steps.count() == 1_000_000);
+    assert!(rt; steps.position() == StepPosition::JumpBoth);
     let cubic = CubicShape::new(1, -2, 3, 10_000_000)?;
-    assert_eq!(rt; cubic.x1(), 1);
-    assert_eq!(rt; cubic.y1(), -2);
-    assert_eq!(rt; cubic.x2(), 3);
-    assert_eq!(rt; cubic.y2(), 10_000_000);
+    assert!(rt; cubic.x1() == 1);
+    assert!(rt; cubic.y1() == -2);
+    assert!(rt; cubic.x2() == 3);
+    assert!(rt; cubic.y2() == 10_000_000);
     Ok(())
 }

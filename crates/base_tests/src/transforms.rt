@@ -1,9 +1,9 @@
-use super::*;
+//! Lists of transform operations, and what lies between two of them.
+
 use std::alloc::{AllocError, Global};
 use std::test::Fail;
+use transform_ops::{ListFault, TransformList, TransformOp};
 use value_blend::Blend;
-
-fn is_shared<T: Send + Sync>() {}
 
 fn list(alloc: Global, ops: &[TransformOp]) -> Result<TransformList, Fail> {
     Ok(TransformList::new(alloc, ops)?)
@@ -32,27 +32,20 @@ fn rotate(x: i64, y: i64, z: i64, angle: i64) -> TransformOp {
 }
 
 #[test]
-fn lists_are_shared_between_threads() {
-    is_shared::<TransformOp>();
-    is_shared::<TransformList>();
-    is_shared::<ListFault>();
-}
-
-#[test]
 fn the_rest_is_the_nearer_list(rt: HostRuntime) -> Result<(), Fail> {
     let from = [translate(0, 0, 0), rotate(0, 0, 1, 90_000)];
     let to = [translate(1000, 0, 0), rotate(1, 0, 0, 45_000)];
     let from = list(rt.alloc(), &from)?;
     let to = list(rt.alloc(), &to)?;
-    assert_eq!(rt; from.match_len(&to), 1);
+    assert!(rt; from.match_len(&to) == 1);
     let below = blended(&from, &to, 524_287)?;
-    assert_eq!(rt; below.len(), 2);
-    assert_eq!(rt; below.op(0), translate(499, 0, 0));
-    assert_eq!(rt; below.op(1), rotate(0, 0, 1, 90_000));
+    assert!(rt; below.len() == 2);
+    assert!(rt; below.op(0) == translate(499, 0, 0));
+    assert!(rt; below.op(1) == rotate(0, 0, 1, 90_000));
     let at = blended(&from, &to, 524_288)?;
-    assert_eq!(rt; at.len(), 2);
-    assert_eq!(rt; at.op(0), translate(500, 0, 0));
-    assert_eq!(rt; at.op(1), rotate(1, 0, 0, 45_000));
+    assert!(rt; at.len() == 2);
+    assert!(rt; at.op(0) == translate(500, 0, 0));
+    assert!(rt; at.op(1) == rotate(1, 0, 0, 45_000));
     Ok(())
 }
 
@@ -63,15 +56,15 @@ fn an_ended_list_stands_for_neutral_operations(rt: HostRuntime) -> Result<(), Fa
     assert!(rt; none.is_empty());
     assert!(rt; !double.is_empty());
     let quarter = blended(&none, &double, 262_144)?;
-    assert_eq!(rt; quarter.len(), 1);
-    assert_eq!(rt; quarter.op(0), scale(1_250_000, 1_250_000, 1_000_000));
+    assert!(rt; quarter.len() == 1);
+    assert!(rt; quarter.op(0) == scale(1_250_000, 1_250_000, 1_000_000));
     let back = blended(&double, &none, 786_432)?;
-    assert_eq!(rt; back.len(), 1);
-    assert_eq!(rt; back.op(0), scale(1_250_000, 1_250_000, 1_000_000));
+    assert!(rt; back.len() == 1);
+    assert!(rt; back.op(0) == scale(1_250_000, 1_250_000, 1_000_000));
     let begin = blended(&none, &double, 0)?;
-    assert_eq!(rt; begin.len(), 1);
-    assert_eq!(rt; begin.op(0), scale(1_000_000, 1_000_000, 1_000_000));
-    assert_eq!(rt; blended(&none, &none, 524_288)?.len(), 0);
+    assert!(rt; begin.len() == 1);
+    assert!(rt; begin.op(0) == scale(1_000_000, 1_000_000, 1_000_000));
+    assert!(rt; blended(&none, &none, 524_288)?.len() == 0);
     Ok(())
 }
 
@@ -83,11 +76,11 @@ fn turns_keep_their_axis_and_overshoot(rt: HostRuntime) -> Result<(), Fail> {
         &[rotate(0, 0, 1, 90_000), translate(1000, 0, 0)],
     )?;
     let back = blended(&from, &to, -3_801_088)?;
-    assert_eq!(rt; back.len(), 2);
-    assert_eq!(rt; back.op(0), rotate(0, 0, 1, -326_250));
-    assert_eq!(rt; back.op(1), translate(-3625, 0, 0));
+    assert!(rt; back.len() == 2);
+    assert!(rt; back.op(0) == rotate(0, 0, 1, -326_250));
+    assert!(rt; back.op(1) == translate(-3625, 0, 0));
     let skew = TransformOp::Skew { x: 90, y: -90 };
-    assert_eq!(rt; skew.neutral(), TransformOp::Skew { x: 0, y: 0 });
+    assert!(rt; skew.neutral() == TransformOp::Skew { x: 0, y: 0 });
     assert!(rt; skew.matches(skew.neutral()));
     Ok(())
 }
@@ -95,27 +88,18 @@ fn turns_keep_their_axis_and_overshoot(rt: HostRuntime) -> Result<(), Fail> {
 #[test]
 fn lists_are_at_most_eight_operations_in_range(rt: HostRuntime) -> Result<(), Fail> {
     let nine = [translate(1, 2, 3); 9];
-    assert_eq!(rt;
-        TransformList::new(rt.alloc(), &nine).err(),
-        Some(ListFault::TooMany)
-    );
+    assert!(rt; TransformList::new(rt.alloc(), &nine).err() == Some(ListFault::TooMany));
     let eight = list(rt.alloc(), &nine[..8])?;
-    assert_eq!(rt; eight.len(), 8);
+    assert!(rt; eight.len() == 8);
     let copy = eight.copy()?;
-    assert_eq!(rt; copy.len(), 8);
-    assert_eq!(rt; copy.op(7), translate(1, 2, 3));
+    assert!(rt; copy.len() == 8);
+    assert!(rt; copy.op(7) == translate(1, 2, 3));
     let widest = translate(1 << 40, 0, -(1 << 40));
     assert!(rt; widest.is_in_range());
-    assert_eq!(rt; list(rt.alloc(), &[widest])?.len(), 1);
+    assert!(rt; list(rt.alloc(), &[widest])?.len() == 1);
     let wider = scale(1, 1, (1 << 40) + 1);
-    assert_eq!(rt;
-        TransformList::new(rt.alloc(), &[wider]).err(),
-        Some(ListFault::OutOfRange)
-    );
+    assert!(rt; TransformList::new(rt.alloc(), &[wider]).err() == Some(ListFault::OutOfRange));
     let many = [wider; 9];
-    assert_eq!(rt;
-        TransformList::new(rt.alloc(), &many).err(),
-        Some(ListFault::TooMany)
-    );
+    assert!(rt; TransformList::new(rt.alloc(), &many).err() == Some(ListFault::TooMany));
     Ok(())
 }

@@ -1,22 +1,14 @@
+//! Keyframe curves.
+
 ghost use Rattle.easing_fixed.specs.Evaluators.{MayEase, Eases};
 
-use super::*;
+use crate::builders::{key, opacity};
+use curve_keys::{Curve, CurveFault, Key};
 use easing_fixed::{Easing, EasingFunction, Evaluator, StepPosition};
 use micro_time::LONGEST_DURATION;
 use std::process::Abort;
 use std::test::Fail;
 use value_blend::Opacity;
-
-fn is_shared<T: Send + Sync>() {}
-
-fn key(time: u64, easing: Easing, millionths: i64) -> Result<Key<Opacity>, Fail> {
-    let value = Opacity::new(millionths).ok_or("no opacity")?;
-    Ok(Key {
-        time,
-        easing,
-        value,
-    })
-}
 
 fn curve(
     rt: &impl Abort,
@@ -53,25 +45,18 @@ fn expect_rows_by<E: EasingFunction + Drop>(
 }
 
 #[test]
-fn types_are_shared_between_threads() {
-    is_shared::<Key<Opacity>>();
-    is_shared::<Curve<Opacity>>();
-    is_shared::<CurveFault>();
-}
-
-#[test]
 fn values_lie_between_the_keys(rt: HostRuntime) -> Result<(), Fail> {
     let linear = Easing::Linear;
     let keys = vec![in rt.alloc();
-        key(0, linear, 0)?,
-        key(400_000, linear, 1_000_000)?,
-        key(1_000_000, linear, 500_000)?,
+        key(0, linear, opacity(0)?),
+        key(400_000, linear, opacity(1_000_000)?),
+        key(1_000_000, linear, opacity(500_000)?),
     ]?;
     let curve = curve(&rt, keys, linear)?;
-    assert_eq!(rt; curve.duration(), 1_000_000);
-    assert_eq!(rt; curve.key_count(), 3);
-    assert_eq!(rt; curve.key(1).time, 400_000);
-    assert_eq!(rt; *curve.easing(), linear);
+    assert!(rt; curve.duration() == 1_000_000);
+    assert!(rt; curve.key_count() == 3);
+    assert!(rt; curve.key(1).time == 400_000);
+    assert!(rt; *curve.easing() == linear);
     let rows = [
         (0, 0),
         (200_000, 500_000),
@@ -85,7 +70,10 @@ fn values_lie_between_the_keys(rt: HostRuntime) -> Result<(), Fail> {
 #[test]
 fn the_first_value_is_not_eased(rt: HostRuntime) -> Result<(), Fail> {
     let jumps = Easing::steps(4, StepPosition::JumpStart)?;
-    let keys = vec![in rt.alloc(); key(0, jumps, 0)?, key(1000, Easing::Linear, 1_000_000)?]?;
+    let keys = vec![in rt.alloc();
+        key(0, jumps, opacity(0)?),
+        key(1000, Easing::Linear, opacity(1_000_000)?),
+    ]?;
     let curve = curve(&rt, keys, Easing::Linear)?;
     expect_rows(
         &rt,
@@ -98,7 +86,10 @@ fn the_first_value_is_not_eased(rt: HostRuntime) -> Result<(), Fail> {
 fn the_curve_bends_its_own_time(rt: HostRuntime) -> Result<(), Fail> {
     let linear = Easing::Linear;
     let half = Easing::steps(2, StepPosition::JumpEnd)?;
-    let keys = vec![in rt.alloc(); key(0, linear, 0)?, key(1000, linear, 1_000_000)?]?;
+    let keys = vec![in rt.alloc();
+        key(0, linear, opacity(0)?),
+        key(1000, linear, opacity(1_000_000)?),
+    ]?;
     let stepped = curve(&rt, keys, half)?;
     expect_rows(
         &rt,
@@ -113,7 +104,10 @@ fn the_curve_bends_its_own_time(rt: HostRuntime) -> Result<(), Fail> {
     )?;
     // Half way this cubic is far below 0, and the time is held at the beginning.
     let back = Easing::cubic(0, -10_000_000, 1_000_000, 0)?;
-    let keys = vec![in rt.alloc(); key(0, linear, 0)?, key(1_048_576, linear, 1_000_000)?]?;
+    let keys = vec![in rt.alloc();
+        key(0, linear, opacity(0)?),
+        key(1_048_576, linear, opacity(1_000_000)?),
+    ]?;
     let held = curve(&rt, keys, back)?;
     expect_rows(&rt, &held, &[(524_288, 0), (1_048_576, 1_000_000)])
 }
@@ -121,27 +115,21 @@ fn the_curve_bends_its_own_time(rt: HostRuntime) -> Result<(), Fail> {
 #[test]
 fn keys_are_refused_in_order(rt: HostRuntime) -> Result<(), Fail> {
     let linear = Easing::Linear;
-    let one = vec![in rt.alloc(); key(5, linear, 0)?]?;
-    assert_eq!(rt; curve(&rt, one, linear).err(), Some(CurveFault::FewKeys));
-    let equal = vec![in rt.alloc(); key(5, linear, 0)?, key(5, linear, 1)?]?;
-    assert_eq!(rt;
-        curve(&rt, equal, linear).err(),
-        Some(CurveFault::TimesNotRising)
-    );
-    let late = vec![in rt.alloc(); key(5, linear, 0)?, key(6, linear, 1)?]?;
-    assert_eq!(rt;
-        curve(&rt, late, linear).err(),
-        Some(CurveFault::FirstNotZero)
-    );
+    let one = vec![in rt.alloc(); key(5, linear, opacity(0)?)]?;
+    assert!(rt; curve(&rt, one, linear).err() == Some(CurveFault::FewKeys));
+    let equal = vec![in rt.alloc(); key(5, linear, opacity(0)?), key(5, linear, opacity(1)?)]?;
+    assert!(rt; curve(&rt, equal, linear).err() == Some(CurveFault::TimesNotRising));
+    let late = vec![in rt.alloc(); key(5, linear, opacity(0)?), key(6, linear, opacity(1)?)]?;
+    assert!(rt; curve(&rt, late, linear).err() == Some(CurveFault::FirstNotZero));
     let mut keys = Vec::new(rt.alloc());
     for time in 0..16 {
-        keys.push(key(time, linear, 0)?)?;
+        keys.push(key(time, linear, opacity(0)?))?;
     }
-    assert_eq!(rt; curve(&rt, keys, linear)?.key_count(), 16);
+    assert!(rt; curve(&rt, keys, linear)?.key_count() == 16);
     let mut keys = Vec::new(rt.alloc());
     for _ in 0..17 {
-        keys.push(key(5, linear, 0)?)?;
+        keys.push(key(5, linear, opacity(0)?))?;
     }
-    assert_eq!(rt; curve(&rt, keys, linear).err(), Some(CurveFault::ManyKeys));
+    assert!(rt; curve(&rt, keys, linear).err() == Some(CurveFault::ManyKeys));
     Ok(())
 }

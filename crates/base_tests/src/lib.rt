@@ -1,0 +1,34 @@
+//! Tests of the crates on which the trees stand: timing, easing, blends, curves, models, and the small tables.
+//!
+//! A crate is proved once more for each crate that holds its tests, so these stand together and not each beside what it
+//! tries. The library itself is empty.
+#![tactic(auto)]
+
+#[cfg(test)]
+mod blends;
+#[cfg(test)]
+mod builders;
+#[cfg(test)]
+mod curves;
+#[cfg(test)]
+mod delegates;
+#[cfg(test)]
+mod easings;
+#[cfg(test)]
+mod effects;
+#[cfg(test)]
+mod elements;
+#[cfg(test)]
+mod events;
+#[cfg(test)]
+mod models;
+#[cfg(test)]
+mod names;
+#[cfg(test)]
+mod sharing;
+#[cfg(test)]
+mod timelines;
+#[cfg(test)]
+mod timing;
+#[cfg(test)]
+mod transforms;
