@@ -1,5 +1,5 @@
 -- How far each model has come, by the marks; and the rows that there are, by the commits and the marks.
-use Rattle.std.specs.Prelude.{◌≡◌, ℕ, ◌==◌, Bool, true, false, ℤ, List, [], Option, Some, None}
+use Rattle.std.specs.Prelude.{◌≡◌, ℕ, ◌==◌, Bool, true, false, List, [], Option, Some, None}
 use Rattle.std.specs.List.{list_any}
 use Rattle.keyframe_model.specs.Models.{Spec}
 use Rattle.tree_commit.specs.declared.runs.mark.Mark.{Mark}
