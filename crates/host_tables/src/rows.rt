@@ -1,4 +1,5 @@
 ghost use Rattle.std.specs.Prelude.{◌≡◌, ◌≢◌, ℕ, ◌+◌, ◌≤◌, ◌<◌, Some, None, IfOk, OnOk, OnErr, nat_eq, is_some, true, IfSome, option_map, option_and_then};
+ghost use Rattle.keyframe_effect.specs.Groups.{one_if};
 ghost use Rattle.host_tables.specs.Rows.{advanced_row, done_row, entered, joined, left, row_at, row_count, state_in};
 ghost use Rattle.tree_commit.specs.Marks.{model_of};
 
@@ -138,6 +139,7 @@ impl RowTable {
     pub fn remove(&mut self, id: ModelId)
         ensures here { row_at self.new id ≡ None }
         ensures others { (other : ℕ) → other ≢ id → row_at self.new other ≡ row_at self.old other }
+        ensures count { row_count self.new + one_if (is_some (row_at self.old id)) ≡ row_count self.old }
         ensures room { self.new.room ≡ self.old.room }
     {
         if let Some(key) = self.places.remove(&id) {
@@ -150,6 +152,8 @@ impl RowTable {
         ensures here { row_at self.new (model_of mark.now)
             ≡ option_map (advanced_row mark.now order) (row_at self.old (model_of mark.now)) }
         ensures others { (id : ℕ) → id ≢ model_of mark.now → row_at self.new id ≡ row_at self.old id }
+        ensures count { row_count self.new ≡ row_count self.old }
+        ensures room { self.new.room ≡ self.old.room }
     {
         if let Some(row) = self.row(model_of(mark)) {
             self.set(advanced_row(row, mark, order));
@@ -160,6 +164,8 @@ impl RowTable {
     pub fn mark_done(&mut self, id: ModelId)
         ensures here { row_at self.new id ≡ option_map done_row (row_at self.old id) }
         ensures others { (other : ℕ) → other ≢ id → row_at self.new other ≡ row_at self.old other }
+        ensures count { row_count self.new ≡ row_count self.old }
+        ensures room { self.new.room ≡ self.old.room }
     {
         if let Some(mut row) = self.row(id) {
             row.mark_done();
@@ -172,6 +178,7 @@ impl RowTable {
         requires room { 0 < self.old.room }
         ensures here { row_at self.new id ≡ Some (joined id (row_at self.old id)) }
         ensures others { (other : ℕ) → other ≢ id → row_at self.new other ≡ row_at self.old other }
+        ensures count { row_count self.new + one_if (is_some (row_at self.old id)) ≡ row_count self.old + 1 }
         ensures room { self.old.room ≤ self.new.room + 1 }
     {
         match self.row(id) {
@@ -192,6 +199,9 @@ impl RowTable {
     pub fn leave_active(&mut self, id: ModelId)
         ensures here { row_at self.new id ≡ option_and_then left (row_at self.old id) }
         ensures others { (other : ℕ) → other ≢ id → row_at self.new other ≡ row_at self.old other }
+        ensures count { row_count self.new + one_if (is_some (row_at self.old id))
+            ≡ row_count self.old + one_if (is_some (option_and_then left (row_at self.old id))) }
+        ensures room { self.new.room ≡ self.old.room }
     {
         match self.row(id) {
             Some(row) if row.in_pending => self.set(ModelRow {
@@ -207,6 +217,8 @@ impl RowTable {
     pub fn enter_active(&mut self, id: ModelId)
         ensures here { row_at self.new id ≡ option_map entered (row_at self.old id) }
         ensures others { (other : ℕ) → other ≢ id → row_at self.new other ≡ row_at self.old other }
+        ensures count { row_count self.new ≡ row_count self.old }
+        ensures room { self.new.room ≡ self.old.room }
     {
         if let Some(row) = self.row(id) {
             self.set(ModelRow {
