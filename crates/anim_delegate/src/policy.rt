@@ -5,7 +5,7 @@ use crate::Verdict;
 use anim_names::AnimEvent;
 
 /// After which event main drops a model by itself. A script may drop a model at any time, whatever its policy.
-#[derive(Clone, Copy, Debug, PartialEq, Eq)]
+#[derive(Clone, Copy, PartialEq, Eq)]
 pub enum Policy {
     /// After it finished or was aborted.
     Auto,

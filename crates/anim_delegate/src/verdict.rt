@@ -1,5 +1,5 @@
 /// What becomes of a model of which main hears an event.
-#[derive(Clone, Copy, Debug, PartialEq, Eq)]
+#[derive(Clone, Copy, PartialEq, Eq)]
 pub enum Verdict {
     /// It stays in main's tree.
     Keep,

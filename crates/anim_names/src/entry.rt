@@ -1,7 +1,7 @@
 use crate::Lane;
 
 /// What a call of the exchange board did.
-#[derive(Clone, Copy, Debug, PartialEq, Eq)]
+#[derive(Clone, Copy, PartialEq, Eq)]
 pub enum EntryKind {
     /// Main put the commit of this number into the mailbox.
     Publish { number: u32 },
@@ -14,7 +14,7 @@ pub enum EntryKind {
 }
 
 /// One entry of the journal of the exchange board.
-#[derive(Clone, Copy, Debug, PartialEq, Eq)]
+#[derive(Clone, Copy, PartialEq, Eq)]
 pub struct Entry {
     /// Whose call it was.
     pub lane: Lane,

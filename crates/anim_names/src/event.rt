@@ -1,7 +1,7 @@
 use crate::{GroupId, ModelId};
 
 /// What the compositor reports of a keyframe model to main.
-#[derive(Clone, Copy, Debug, PartialEq, Eq)]
+#[derive(Clone, Copy, PartialEq, Eq)]
 pub enum AnimEvent {
     /// The model started in the tick of time `at`, in microseconds. Its local time counts from `start`, in
     /// microseconds of its timeline, which may be negative.

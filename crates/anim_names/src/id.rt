@@ -5,7 +5,7 @@ ghost use Rattle.std.specs.Prelude.{ℕ};
 use std::marker::Model;
 
 /// Names an element of the page. Free again once the element was removed.
-#[derive(Clone, Copy, Debug, PartialEq, Eq, Hash)]
+#[derive(Clone, Copy, PartialEq, Eq, Hash)]
 pub struct ElementId(pub u32);
 
 impl Model for ElementId {
@@ -17,7 +17,7 @@ impl Model for ElementId {
 }
 
 /// Names a keyframe model. Used once in a script, whether the model is still there or not.
-#[derive(Clone, Copy, Debug, PartialEq, Eq, Hash)]
+#[derive(Clone, Copy, PartialEq, Eq, Hash)]
 pub struct ModelId(pub u32);
 
 impl Model for ModelId {
@@ -29,7 +29,7 @@ impl Model for ModelId {
 }
 
 /// Names a group: keyframe models of one element that start and finish together.
-#[derive(Clone, Copy, Debug, PartialEq, Eq, Hash)]
+#[derive(Clone, Copy, PartialEq, Eq, Hash)]
 pub struct GroupId(pub u32);
 
 impl Model for GroupId {
@@ -41,7 +41,7 @@ impl Model for GroupId {
 }
 
 /// Names a timeline.
-#[derive(Clone, Copy, Debug, PartialEq, Eq, Hash)]
+#[derive(Clone, Copy, PartialEq, Eq, Hash)]
 pub struct TimelineId(pub u32);
 
 impl Model for TimelineId {

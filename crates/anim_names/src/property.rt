@@ -1,5 +1,5 @@
 /// What of an element a keyframe model animates.
-#[derive(Clone, Copy, Debug, PartialEq, Eq)]
+#[derive(Clone, Copy, PartialEq, Eq)]
 pub enum Property {
     /// How much of what lies behind shows through, in millionths: 0 is invisible, 1,000,000 opaque.
     Opacity,

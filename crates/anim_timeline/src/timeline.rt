@@ -7,7 +7,7 @@ use std::marker::Model;
 /// A clock of animations: it shows 0 at one tick, and at any other how far that tick is from it.
 ///
 /// Contracts see the tick at which it shows 0.
-#[derive(Clone, Copy, Debug, PartialEq, Eq)]
+#[derive(Clone, Copy, PartialEq, Eq)]
 pub struct Timeline {
     origin: u64,
 }

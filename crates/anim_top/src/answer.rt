@@ -19,7 +19,7 @@ use std::sync::Wait;
 use std::thread::Threads;
 
 /// A status, and all that is written before the program ends with it. Writing the text is the caller's part.
-#[derive(Debug, Drop)]
+#[derive(Drop)]
 pub(crate) struct Answer {
     pub(crate) status: Status,
     pub(crate) text: Vec<u8>,

@@ -7,7 +7,7 @@ use script_fields::numbers::natural_within;
 use script_gen::MOST_GENERATED;
 
 /// What the arguments ask for. A number says how large a script is made.
-#[derive(Clone, Copy, Debug, PartialEq, Eq)]
+#[derive(Clone, Copy, PartialEq, Eq)]
 pub enum Command {
     /// Run both lanes of the script that the source gives, each in a thread of its own, and write the report.
     Run,

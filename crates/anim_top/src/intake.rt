@@ -9,7 +9,7 @@ use frame_script::MOST_BYTES;
 use std::alloc::{AllocError, Global};
 
 /// Why a source's bytes could not be read.
-#[derive(Clone, Copy, Debug, PartialEq, Eq)]
+#[derive(Clone, Copy, PartialEq, Eq)]
 pub enum ReadError {
     Fault,
     NoMemory,

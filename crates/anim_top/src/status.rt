@@ -3,7 +3,7 @@ use frame_script::Cause;
 /// How the program ended: a value, and not an act. `main` ends the process with its number.
 ///
 /// It does not say what went wrong outside; the program's answer depends only on which side failed.
-#[derive(Clone, Copy, Debug, PartialEq, Eq)]
+#[derive(Clone, Copy, PartialEq, Eq)]
 pub enum Status {
     /// The whole output was written.
     Done,

@@ -69,11 +69,7 @@ fn a_bad_count_of_steps_is_refused(rt: HostRuntime) {
         (1_000_001, StepPosition::JumpStart),
     ];
     for (count, position) in rows {
-        assert_eq!(rt;
-            Easing::steps(count, position),
-            Err(EasingFault::BadCount),
-            "for {count}"
-        );
+        assert!(rt; Easing::steps(count, position) == Err(EasingFault::BadCount), "for {count}");
     }
 }
 
@@ -109,11 +105,7 @@ fn control_numbers_out_of_range_are_refused(rt: HostRuntime) {
         (0, 10_000_001, 0, 0, EasingFault::YOutOfRange),
     ];
     for (x1, y1, x2, y2, fault) in rows {
-        assert_eq!(rt;
-            Easing::cubic(x1, y1, x2, y2),
-            Err(fault),
-            "for {x1} {y1} {x2} {y2}"
-        );
+        assert!(rt; Easing::cubic(x1, y1, x2, y2) == Err(fault), "for {x1} {y1} {x2} {y2}");
     }
 }
 
@@ -125,7 +117,7 @@ fn keywords_are_their_curves(rt: HostRuntime) -> Result<(), Fail> {
     assert!(rt; Easing::ease_in_out() == Easing::cubic(420_000, 0, 580_000, 1_000_000)?);
     assert!(rt; Easing::step_start() == Easing::steps(1, StepPosition::JumpStart)?);
     assert!(rt; Easing::step_end() == Easing::steps(1, StepPosition::JumpEnd)?);
-    assert_ne!(rt; Easing::step_end(), Easing::Linear);
+    assert!(rt; Easing::step_end() != Easing::Linear);
     Ok(())
 }
 

@@ -37,7 +37,7 @@ fn one_thread_makes_the_sections_of_both_lanes(rt: HostRuntime) -> Result<(), Fa
     let diary = note_in_turn(&rt, rt.alloc(), Diary::new(rt.alloc(), 7), SECTIONS)?;
     expect_all(&rt, diary.entries());
     for pair in diary.entries().windows(2) {
-        assert_ne!(rt; pair[0].lane, pair[1].lane);
+        assert!(rt; pair[0].lane != pair[1].lane);
     }
     Ok(())
 }

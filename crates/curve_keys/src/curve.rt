@@ -21,7 +21,6 @@ const BEGIN: u64 = 0;
 ///
 /// The curve's own easing bends the time before a value is looked up. Contracts see a curve as its keys and its
 /// easing; `curve_value` of them is the value at a time.
-#[derive(Debug)]
 pub struct Curve<V: Blend> {
     keys: Vec<Key<V>>,
     easing: Easing,

@@ -7,7 +7,7 @@ use std::alloc::AllocError;
 use value_blend::Blend;
 
 /// A value at a time of a curve.
-#[derive(Debug, Drop)]
+#[derive(Drop)]
 pub struct Key<V> {
     /// Microseconds from the beginning of the curve.
     pub time: u64,

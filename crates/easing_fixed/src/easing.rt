@@ -8,7 +8,7 @@ use crate::{CubicShape, EasingFault, StepPosition, StepShape};
 use anim_names::ONE;
 
 /// How a progress is bent, after CSS Easing Functions Level 1.
-#[derive(Clone, Copy, Debug, PartialEq, Eq)]
+#[derive(Clone, Copy, PartialEq, Eq)]
 pub enum Easing {
     /// Not at all.
     Linear,

@@ -2,7 +2,7 @@ ghost use Rattle.std.specs.Prelude.{◌≡◌};
 ghost use Rattle.easing_fixed.specs.Steps.{least_count, first_jumps};
 
 /// Where a step function jumps, after CSS Easing Functions Level 1.
-#[derive(Clone, Copy, Debug, PartialEq, Eq)]
+#[derive(Clone, Copy, PartialEq, Eq)]
 pub enum StepPosition {
     /// At the beginning of each step, so the first jump comes at once. Also called start.
     JumpStart,

@@ -7,7 +7,7 @@ use anim_names::ONE;
 use std::marker::Model;
 
 /// A step function: how many intervals it has, and where it jumps.
-#[derive(Clone, Copy, Debug, PartialEq, Eq)]
+#[derive(Clone, Copy, PartialEq, Eq)]
 pub struct StepShape {
     count: u32,
     position: StepPosition,

@@ -18,7 +18,7 @@ pub trait Gate {
 }
 
 /// The gate of the program. It does nothing.
-#[derive(Clone, Copy, Debug)]
+#[derive(Clone, Copy)]
 pub struct IdleGate;
 
 impl Gate for IdleGate {

@@ -13,7 +13,7 @@ pub const ROOM: usize = 1 << 20;
 
 /// A sink over memory for tests: it takes bytes in small parts, and fails at the calls that it is told to and
 /// where its room is full. It always tells its bytes.
-#[derive(Debug, Drop)]
+#[derive(Drop)]
 pub struct MemorySink {
     bytes: Vec<u8>,
     most: usize,

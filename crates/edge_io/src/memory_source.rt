@@ -8,7 +8,7 @@ use std::marker::Model;
 
 /// A source over memory for tests: it gives its bytes in small parts, and fails at the calls that it is told to.
 /// It always tells its bytes.
-#[derive(Debug, Drop)]
+#[derive(Drop)]
 pub struct MemorySource {
     bytes: SteadySource,
     most: usize,

@@ -11,7 +11,7 @@ use std::marker::Model;
 ///
 /// Each error of the reader is a fault and raises the count, which stays at 2^64 - 1. A read that was
 /// interrupted is tried again; any other error makes the call fail.
-#[derive(Debug, Drop)]
+#[derive(Drop)]
 pub struct StdSource<R: Read> {
     inner: R,
     faults: u64,

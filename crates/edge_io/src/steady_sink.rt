@@ -8,7 +8,7 @@ use std::marker::Model;
 
 /// A sink over memory that never fails. It takes each piece whole, and keeps a piece that fits in the room that is
 /// left. It tells its bytes until a piece does not fit, and never again.
-#[derive(Debug, Drop)]
+#[derive(Drop)]
 pub struct SteadySink {
     bytes: Vec<u8>,
     room: usize,

@@ -5,7 +5,7 @@ use std::marker::Model;
 
 /// A source over memory that never fails. It gives as many bytes as there is room for. A contract sees the
 /// bytes that are left.
-#[derive(Debug, Drop)]
+#[derive(Drop)]
 pub struct SteadySource {
     bytes: Vec<u8>,
     given: usize,

@@ -5,7 +5,7 @@ use anim_names::{GroupId, Property, Tree};
 use std::marker::Model;
 
 /// What is kept of one element. Contracts see a `Row`.
-#[derive(Clone, Copy, Debug, PartialEq, Eq)]
+#[derive(Clone, Copy, PartialEq, Eq)]
 pub(crate) struct ElementRow {
     /// Whether the pending tree has the element.
     pending: bool,

@@ -12,7 +12,7 @@ use std::sync::Arc;
 use tree_commit::Commit;
 
 /// Whether the compositor has a commit that waits for its activation.
-#[derive(Clone, Copy, Debug, PartialEq, Eq)]
+#[derive(Clone, Copy, PartialEq, Eq)]
 pub enum PendingSlot {
     /// None is pending: a pull may give one.
     Free,

@@ -6,7 +6,6 @@ use tree_commit::Frame;
 ///
 /// Contracts see four lists. Whether they are those of one run is up to the caller who makes the report: any four lists
 /// are one. It never changes, and may be sent to and read by any thread.
-#[derive(Debug)]
 pub struct Report {
     word: Vec<Lane>,
     frames: Vec<Frame>,

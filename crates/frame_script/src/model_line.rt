@@ -4,7 +4,7 @@ use easing_fixed::Easing;
 use micro_time::Timing;
 
 /// The ids that a model's line names, its property and its given start.
-#[derive(Clone, Copy, Debug)]
+#[derive(Clone, Copy)]
 pub struct ModelNames {
     pub id: ModelId,
     pub group: GroupId,
@@ -16,7 +16,7 @@ pub struct ModelNames {
 }
 
 /// What the line of a model says. The keys of its curve stand on the lines behind it.
-#[derive(Clone, Copy, Debug)]
+#[derive(Clone, Copy)]
 pub struct ModelLine {
     pub names: ModelNames,
     /// The timing of a curve of duration 1: how long the curve is shows only after the keys.

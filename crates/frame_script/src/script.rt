@@ -12,7 +12,6 @@ use tree_commit::{CompositorStep, MainStep};
 /// A well-formed script: the steps of main, those of the compositor, and a word of the two.
 ///
 /// Contracts see the three lists. It does not know which text it was read from.
-#[derive(Debug)]
 pub struct Script {
     main: Vec<MainStep>,
     compositor: Vec<CompositorStep>,

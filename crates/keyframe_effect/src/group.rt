@@ -8,7 +8,7 @@ use element_anims::ElementAnims;
 use keyframe_model::ModelSpec;
 
 /// A group of the active commit with what a tick asks of it, so that no tick looks through its models.
-#[derive(Clone, Copy, Debug, PartialEq, Eq)]
+#[derive(Clone, Copy, PartialEq, Eq)]
 pub struct GroupRow {
     pub group: GroupId,
     /// The element of all its models.

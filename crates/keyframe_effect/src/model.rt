@@ -7,7 +7,7 @@ use anim_names::ModelId;
 /// A keyframe model of the active or the pending commit, with how far it is, and which of the two have it.
 ///
 /// Each call changes the state alone. A call that is not for the state of the row leaves it, except for an abort.
-#[derive(Clone, Copy, Debug, PartialEq, Eq)]
+#[derive(Clone, Copy, PartialEq, Eq)]
 pub struct ModelRow {
     pub model: ModelId,
     pub state: RunState,

@@ -2,7 +2,7 @@ ghost use Rattle.std.specs.Prelude.{◌≡◌};
 ghost use Rattle.keyframe_effect.specs.States.{after_done, after_finish, after_start, is_ended, is_unfinished, is_waiting};
 
 /// How far a keyframe model is.
-#[derive(Clone, Copy, Debug, PartialEq, Eq)]
+#[derive(Clone, Copy, PartialEq, Eq)]
 pub enum RunState {
     /// It has not started.
     Waiting,

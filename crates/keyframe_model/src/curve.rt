@@ -10,14 +10,13 @@ use transform_ops::TransformList;
 use value_blend::Opacity;
 
 /// A curve of one of the properties.
-#[derive(Debug)]
 pub enum CurveOf {
     Opacity(Curve<Opacity>),
     Transform(Curve<TransformList>),
 }
 
 /// A value of one of the properties.
-#[derive(Debug, Drop)]
+#[derive(Drop)]
 pub enum Value {
     Opacity(Opacity),
     Transform(TransformList),

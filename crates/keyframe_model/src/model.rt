@@ -14,7 +14,6 @@ use std::marker::Model;
 /// A keyframe model: a curve of one property of one element, when it runs, and what becomes of it once it ended.
 ///
 /// It belongs to a group, whose models start and finish together, and never changes. Contracts see it as plain data.
-#[derive(Debug)]
 pub struct ModelSpec {
     id: ModelId,
     group: GroupId,

@@ -2,7 +2,7 @@ ghost use Rattle.std.specs.Prelude.{◌≡◌};
 ghost use Rattle.micro_time.specs.Timings.{is_backwards};
 
 /// Which way the curve is run through in each iteration. The first iteration has number 0.
-#[derive(Clone, Copy, Debug, PartialEq, Eq)]
+#[derive(Clone, Copy, PartialEq, Eq)]
 pub enum Direction {
     /// Every iteration from the curve's beginning to its end.
     Normal,

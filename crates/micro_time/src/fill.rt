@@ -4,7 +4,7 @@ ghost use Rattle.micro_time.specs.Timings.{is_shown_in};
 use crate::Phase;
 
 /// Where an animation shows a value outside of its iterations.
-#[derive(Clone, Copy, Debug, PartialEq, Eq)]
+#[derive(Clone, Copy, PartialEq, Eq)]
 pub enum Fill {
     /// Neither before them nor after them.
     Neither,

@@ -1,5 +1,5 @@
 /// How often the curve is run through.
-#[derive(Clone, Copy, Debug, PartialEq, Eq)]
+#[derive(Clone, Copy, PartialEq, Eq)]
 pub enum Iterations {
     /// A number of iterations, in thousandths: 2500 is two and a half, 0 is none.
     Finite(u32),

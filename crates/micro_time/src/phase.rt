@@ -1,5 +1,5 @@
 /// Where a local time lies among an animation's iterations.
-#[derive(Clone, Copy, Debug, PartialEq, Eq)]
+#[derive(Clone, Copy, PartialEq, Eq)]
 pub enum Phase {
     /// Before their beginning.
     Before,

@@ -17,7 +17,7 @@ use std::marker::Model;
 /// that has elapsed, this and the rate make the progress, and the progress gives an iteration and a part of it. The
 /// units and ranges, that nothing is rounded before the last step, and the rule for the fill are this project's own. A
 /// timing does not know when its animation starts: local times count from there.
-#[derive(Clone, Copy, Debug, PartialEq, Eq)]
+#[derive(Clone, Copy, PartialEq, Eq)]
 pub struct Timing {
     duration: u64,
     offset: i64,

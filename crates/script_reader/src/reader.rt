@@ -22,7 +22,7 @@ use std::sync::Arc;
 use tree_commit::{Edit, MainStep};
 
 /// Which line may stand next, where that is no key.
-#[derive(Clone, Copy, Debug, PartialEq, Eq)]
+#[derive(Clone, Copy, PartialEq, Eq)]
 pub(crate) enum ReaderStage {
     Header,
     MainPart,

@@ -62,7 +62,7 @@ fn keywords_say_what_they_name(rt: HostRuntime) {
         ("alternate-reverse", Some(Direction::AlternateReverse)),
         ("reverse-alternate", None),
     ] {
-        assert_eq!(rt; direction_said(word.as_bytes()), direction);
+        assert!(rt; direction_said(word.as_bytes()) == direction, "for {word}");
     }
     for (word, fill) in [
         ("none", Some(Fill::Neither)),
@@ -71,7 +71,7 @@ fn keywords_say_what_they_name(rt: HostRuntime) {
         ("both", Some(Fill::Both)),
         ("neither", None),
     ] {
-        assert_eq!(rt; fill_said(word.as_bytes()), fill);
+        assert!(rt; fill_said(word.as_bytes()) == fill, "for {word}");
     }
     for (word, policy) in [
         ("auto", Some(Policy::Auto)),
@@ -79,7 +79,7 @@ fn keywords_say_what_they_name(rt: HostRuntime) {
         ("manual", Some(Policy::Manual)),
         ("none", None),
     ] {
-        assert_eq!(rt; policy_said(word.as_bytes()), policy);
+        assert!(rt; policy_said(word.as_bytes()) == policy, "for {word}");
     }
     assert!(rt; iterations_said(b"infinite") == Some(Iterations::Infinite));
     assert!(rt; iterations_said(b"2500") == Some(Iterations::Finite(2500)));
@@ -136,11 +136,7 @@ fn easings_are_spelled_in_three_forms(rt: HostRuntime) -> Result<(), Fail> {
         ("spring", None),
         ("", None),
     ] {
-        assert_eq!(rt;
-            easing_said(rt.alloc(), field.as_bytes())?,
-            easing,
-            "for {field:?}"
-        );
+        assert!(rt; easing_said(rt.alloc(), field.as_bytes())? == easing, "for {field:?}");
     }
     Ok(())
 }
@@ -172,7 +168,7 @@ fn a_list_is_none_or_operations(rt: HostRuntime) -> Result<(), Fail> {
     .enumerate()
     {
         if i < list.len() {
-            assert_eq!(rt; list.op(i), op);
+            assert!(rt; list.op(i) == op);
         }
     }
     let empty = list_said(alloc, fields_of(alloc, b"none")?.as_slice())?;

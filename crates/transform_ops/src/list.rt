@@ -15,7 +15,7 @@ use value_blend::Blend;
 /// last.
 ///
 /// Contracts see a list of operations.
-#[derive(Debug, Drop)]
+#[derive(Drop)]
 pub struct TransformList {
     ops: Vec<TransformOp>,
 }

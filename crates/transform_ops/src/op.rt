@@ -7,7 +7,7 @@ use value_blend::{LARGEST_NUMBER, blend_number};
 
 /// One operation of a transform. Every number is at most
 /// [`LARGEST_NUMBER`] in size.
-#[derive(Clone, Copy, Debug, PartialEq, Eq)]
+#[derive(Clone, Copy, PartialEq, Eq)]
 pub enum TransformOp {
     /// Moves, in thousandths of a pixel.
     Translate { x: i64, y: i64, z: i64 },

@@ -8,7 +8,6 @@ use value_blend::Opacity;
 /// What an element shows where no keyframe model animates it.
 ///
 /// The list is shared: every commit that has the element in this state points to one list.
-#[derive(Debug)]
 pub struct Base {
     pub opacity: Opacity,
     pub transform: Arc<TransformList>,

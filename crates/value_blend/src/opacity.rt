@@ -7,7 +7,7 @@ use std::alloc::AllocError;
 use std::marker::Model;
 
 /// How much an element hides of what lies behind it, in millionths: 0 is invisible, [`FULL_OPACITY`] opaque.
-#[derive(Clone, Copy, Debug, PartialEq, Eq)]
+#[derive(Clone, Copy, PartialEq, Eq)]
 pub struct Opacity {
     millionths: u32,
 }

@@ -7,7 +7,6 @@ use transform_ops::TransformList;
 use value_blend::Opacity;
 
 /// One change of main's tree.
-#[derive(Debug)]
 pub enum Edit {
     /// Adds an element, last.
     AddElement {

@@ -12,7 +12,6 @@ use std::alloc::{AllocError, Global};
 /// What all models ever added to a group have in common, and which properties they animate.
 ///
 /// It does not know the group's own id, nor which of the models are still there.
-#[derive(Debug)]
 pub struct GroupShape {
     element: ElementId,
     timeline: TimelineId,

@@ -1,5 +1,5 @@
 /// One step of the compositor.
-#[derive(Clone, Copy, Debug, PartialEq, Eq)]
+#[derive(Clone, Copy, PartialEq, Eq)]
 pub enum CompositorStep {
     /// Take the newest commit as the pending one, where none is pending.
     Pull,

@@ -6,7 +6,7 @@ use std::marker::Model;
 /// What the compositor draws at a tick: a row for each element of the active commit, in the commit's order.
 ///
 /// A contract sees its tick, the number of its commit and its rows as plain data.
-#[derive(Debug, Drop)]
+#[derive(Drop)]
 pub struct Frame {
     time: u64,
     commit: u32,

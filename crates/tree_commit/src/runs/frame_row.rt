@@ -6,7 +6,7 @@ use value_blend::Opacity;
 /// What one element shows at a tick.
 ///
 /// The list is shared: a row that no model animates points to the list of its commit.
-#[derive(Debug, Drop)]
+#[derive(Drop)]
 pub struct FrameRow {
     pub element: ElementId,
     pub opacity: Opacity,

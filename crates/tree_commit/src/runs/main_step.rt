@@ -1,7 +1,6 @@
 use crate::Edit;
 
 /// One step of main.
-#[derive(Debug)]
 pub enum MainStep {
     /// Change main's tree.
     Edit(Edit),

@@ -11,7 +11,7 @@ use value_blend::Opacity;
 /// The value that a keyframe model gives at a tick.
 ///
 /// A list is shared: the rows that show it, and whoever keeps the sample for later ticks, point to one list.
-#[derive(Debug, Drop)]
+#[derive(Drop)]
 pub enum Sample {
     Opacity(Opacity),
     Transform(Arc<TransformList>),

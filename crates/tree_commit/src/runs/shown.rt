@@ -1,5 +1,5 @@
 /// What a frame needs to know of a keyframe model that has started and was not aborted.
-#[derive(Clone, Copy, Debug, PartialEq, Eq)]
+#[derive(Clone, Copy, PartialEq, Eq)]
 pub struct Shown {
     /// From when its local time counts, in microseconds of its timeline.
     pub start: i64,
