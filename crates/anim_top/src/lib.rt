@@ -22,6 +22,3 @@ pub use commands::{command, plain_command};
 pub use hooks::Hooks;
 pub use running::run_threads;
 pub use status::Status;
-
-#[cfg(test)]
-mod tests;

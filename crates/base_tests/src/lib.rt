@@ -13,13 +13,23 @@ mod curves;
 #[cfg(test)]
 mod delegates;
 #[cfg(test)]
+mod diary;
+#[cfg(test)]
 mod easings;
+#[cfg(test)]
+mod edges;
 #[cfg(test)]
 mod effects;
 #[cfg(test)]
 mod elements;
 #[cfg(test)]
 mod events;
+#[cfg(test)]
+mod gates;
+#[cfg(test)]
+mod lanes;
+#[cfg(test)]
+mod lock;
 #[cfg(test)]
 mod models;
 #[cfg(test)]

@@ -3,4 +3,3 @@ pub mod Views
 pub mod Rules
 pub mod Steps
 pub mod Seats
-pub mod Notes

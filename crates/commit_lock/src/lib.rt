@@ -18,6 +18,3 @@ pub use held::Held;
 pub use journaled::Journaled;
 pub use lock::CommitLock;
 pub use seat::LaneSeat;
-
-#[cfg(test)]
-mod tests;

@@ -38,7 +38,7 @@ impl MeetGate {
     }
 
     /// A gate at which a lane gives up after this many looks.
-    pub(crate) fn with_turns(turns: u32) -> Self {
+    pub fn with_turns(turns: u32) -> Self {
         MeetGate {
             meeting: Meeting::new(turns),
         }
@@ -79,7 +79,7 @@ impl HoldGate {
     }
 
     /// A gate at which a lane gives up after this many looks.
-    pub(crate) fn with_turns(first: u32, turns: u32) -> Self {
+    pub fn with_turns(first: u32, turns: u32) -> Self {
         HoldGate {
             meeting: Meeting::new(turns),
             first,

@@ -1,12 +1,16 @@
+//! The sources and the sinks of bytes: what each call moves, and where it fails.
+
 ghost use Rattle.std.specs.Prelude.{◌≡◌, ◌<◌, ◌≤◌, length, Some, IfOk};
 ghost use Rattle.edge_io.specs.SteadySink.{told};
 
-mod gates;
-
-use super::*;
+use edge_io::memory_sink::ROOM;
+use edge_io::{
+    Failed, MemorySink, MemorySource, Sink, Source, StdSink, StdSource, SteadySink, SteadySource,
+};
 use std::alloc::{AllocError, Global};
 use std::io;
 use std::io::{ErrorKind, Read, Write};
+use std::process::Abort;
 use std::test::Fail;
 
 /// What a reader or a writer answers in turn: a count, or an error of this kind. A count of 0 answers a flush.
@@ -71,13 +75,60 @@ impl Write for Flushed {
     }
 }
 
+/// One read, and how many bytes it gave.
+fn expect_count<S: Source>(
+    rt: &impl Abort,
+    source: &mut S,
+    into: &mut [u8],
+    want: Result<usize, Failed>,
+)
+    requires { 0 < length into.old }
+{
+    assert_eq!(rt; source.read(into), want);
+}
+
+/// One read, how many bytes it gave, and what stands there after it.
+fn expect_read<S: Source>(
+    rt: &impl Abort,
+    source: &mut S,
+    into: &mut [u8],
+    want: Result<usize, Failed>,
+    text: &[u8],
+)
+    requires { 0 < length into.old }
+{
+    expect_count(rt, source, into, want);
+    assert_eq!(rt; &*into, text);
+}
+
+/// One write of a piece that is not empty, and how many bytes it took.
+fn expect_write<K: Sink>(rt: &impl Abort, sink: &mut K, piece: &[u8], want: Result<usize, Failed>) {
+    assert!(rt; !piece.is_empty());
+    assert_eq!(rt; sink.write(piece), want);
+}
+
+fn expect_taken(rt: &impl Abort, sink: &SteadySink, taken: &[u8], is_whole: bool) {
+    assert_eq!(rt; sink.taken(), taken);
+    assert!(rt; sink.is_whole() == is_whole);
+}
+
+fn memory_source(
+    alloc: Global,
+    bytes: &[u8],
+    most: usize,
+    failing: &[u32],
+) -> Result<MemorySource, AllocError>
+    requires { 0 < most }
+{
+    let bytes = bytes.to_vec(alloc)?;
+    Ok(MemorySource::new(bytes, most, failing.to_vec(alloc)?))
+}
+
 #[test]
 fn a_memory_source_gives_small_parts_and_fails_where_it_is_told(
     rt: HostRuntime,
 ) -> Result<(), Fail> {
-    let bytes = b"abcdefg".to_vec(rt.alloc())?;
-    let failing = [1, 4].to_vec(rt.alloc())?;
-    let mut source = MemorySource::new(bytes, 3, failing);
+    let mut source = memory_source(rt.alloc(), b"abcdefg", 3, &[1, 4])?;
     let mut into = [0u8; 4];
     for (want, text) in [
         (Ok(3), b"abc\0"),
@@ -87,8 +138,7 @@ fn a_memory_source_gives_small_parts_and_fails_where_it_is_told(
         (Err(Failed), b"gef\0"),
         (Ok(0), b"gef\0"),
     ] {
-        assert_eq!(rt; source.read(&mut into), want);
-        assert_eq!(rt; into.as_slice(), text.as_slice());
+        expect_read(&rt, &mut source, &mut into, want, text.as_slice());
     }
     Ok(())
 }
@@ -98,8 +148,7 @@ fn a_steady_source_gives_all_that_there_is_room_for(rt: HostRuntime) -> Result<(
     let mut source = SteadySource::new(b"abcde".to_vec(rt.alloc())?);
     let mut into = [0u8; 3];
     for (want, text) in [(3, b"abc"), (2, b"dec"), (0, b"dec")] {
-        assert_eq!(rt; source.read(&mut into), Ok(want));
-        assert_eq!(rt; into.as_slice(), text.as_slice());
+        expect_read(&rt, &mut source, &mut into, Ok(want), text.as_slice());
     }
     Ok(())
 }
@@ -113,8 +162,7 @@ fn a_memory_sink_takes_small_parts_and_fails_where_it_is_told(rt: HostRuntime) -
         (b"d".as_slice(), Ok(1)),
         (b"efg".as_slice(), Ok(3)),
     ] {
-        assert!(rt; !piece.is_empty());
-        assert_eq!(rt; sink.write(piece), want);
+        expect_write(&rt, &mut sink, piece, want);
     }
     assert!(rt; sink.taken() == b"abcdefg".as_slice());
     Ok(())
@@ -122,20 +170,23 @@ fn a_memory_sink_takes_small_parts_and_fails_where_it_is_told(rt: HostRuntime) -
 
 #[test]
 fn a_memory_sink_fails_where_its_room_is_full(rt: HostRuntime) -> Result<(), Fail> {
-    let room = memory_sink::ROOM;
-    let piece = vec![in rt.alloc(); 7u8; room - 1]?;
-    let mut sink = MemorySink::new(rt.alloc(), room, Vec::new(rt.alloc()))?;
+    let piece = vec![in rt.alloc(); 7u8; ROOM - 1]?;
+    let mut sink = MemorySink::new(rt.alloc(), ROOM, Vec::new(rt.alloc()))?;
+    expect_full(&rt, &mut sink, piece.as_slice());
+    Ok(())
+}
+
+// The piece leaves room for one byte.
+fn expect_full(rt: &impl Abort, sink: &mut MemorySink, piece: &[u8]) {
     for (piece, want) in [
-        (piece.as_slice(), Ok(room - 1)),
+        (piece, Ok(ROOM - 1)),
         (b"ab".as_slice(), Ok(1)),
         (b"b".as_slice(), Err(Failed)),
     ] {
-        assert!(rt; !piece.is_empty());
-        assert_eq!(rt; sink.write(piece), want);
+        expect_write(rt, sink, piece, want);
     }
-    assert!(rt; sink.taken().len() == room);
+    assert!(rt; sink.taken().len() == ROOM);
     assert!(rt; sink.taken().last() == Some(&b'a'));
-    Ok(())
 }
 
 /// A sink with just the room for this text, after the text was written.
@@ -164,10 +215,8 @@ fn a_steady_sink_drops_what_does_not_fit(rt: HostRuntime) -> Result<(), Fail> {
         (b"d".as_slice(), b"abcd".as_slice(), true),
         (b"e".as_slice(), b"abcd".as_slice(), false),
     ] {
-        assert!(rt; !piece.is_empty());
-        assert_eq!(rt; sink.write(piece), Ok(piece.len()));
-        assert_eq!(rt; sink.taken(), taken);
-        assert_eq!(rt; sink.is_whole(), is_whole);
+        expect_write(&rt, &mut sink, piece, Ok(piece.len()));
+        expect_taken(&rt, &sink, taken, is_whole);
     }
     Ok(())
 }
@@ -177,10 +226,9 @@ fn a_steady_sink_keeps_a_piece_that_fits_after_one_that_did_not(
     rt: HostRuntime,
 ) -> Result<(), Fail> {
     let mut sink = SteadySink::new(rt.alloc(), 4)?;
-    assert!(rt; sink.write(b"abcde") == Ok(5));
-    assert!(rt; sink.write(b"fghi") == Ok(4));
-    assert!(rt; sink.taken() == b"fghi".as_slice());
-    assert!(rt; !sink.is_whole());
+    expect_write(&rt, &mut sink, b"abcde", Ok(5));
+    expect_write(&rt, &mut sink, b"fghi", Ok(4));
+    expect_taken(&rt, &sink, b"fghi", false);
     Ok(())
 }
 
@@ -188,12 +236,11 @@ fn a_steady_sink_keeps_a_piece_that_fits_after_one_that_did_not(
 fn the_adapters_move_the_bytes_of_their_reader_and_writer(rt: HostRuntime) -> Result<(), Fail> {
     let mut source = StdSource::new(b"abcde".as_slice());
     let mut into = [0u8; 3];
-    assert!(rt; source.read(&mut into) == Ok(3));
-    assert!(rt; into.as_slice() == b"abc".as_slice());
+    expect_read(&rt, &mut source, &mut into, Ok(3), b"abc");
     assert!(rt; source.into_inner() == b"de".as_slice());
     let mut sink = StdSink::new(Vec::new(rt.alloc()));
-    assert!(rt; sink.write(&into) == Ok(3));
-    assert!(rt; sink.write(b"d") == Ok(1));
+    expect_write(&rt, &mut sink, into.as_slice(), Ok(3));
+    expect_write(&rt, &mut sink, b"d", Ok(1));
     assert!(rt; sink.into_inner().as_slice() == b"abcd".as_slice());
     Ok(())
 }
@@ -209,7 +256,7 @@ fn an_adapter_tries_again_where_it_was_interrupted(rt: HostRuntime) {
     let mut source = StdSource::new(Answers { answers: &answers });
     let mut into = [0u8; 3];
     for want in [Ok(2), Err(Failed), Ok(1), Ok(0)] {
-        assert_eq!(rt; source.read(&mut into), want);
+        expect_count(&rt, &mut source, &mut into, want);
     }
 }
 
@@ -226,7 +273,7 @@ fn a_write_that_takes_nothing_and_a_flush_that_fails_are_faults(rt: HostRuntime)
     ];
     let mut sink = StdSink::new(Answers { answers: &answers });
     for want in [Ok(2), Err(Failed), Err(Failed), Err(Failed)] {
-        assert_eq!(rt; sink.write(b"abc"), want);
+        expect_write(&rt, &mut sink, b"abc", want);
     }
 }
 
@@ -237,31 +284,7 @@ fn each_write_is_flushed_and_fails_where_its_flush_fails(rt: HostRuntime) {
         failing: 2,
     });
     for want in [Ok(3), Err(Failed), Ok(3)] {
-        assert!(rt; sink.write(b"abc") == want);
+        expect_write(&rt, &mut sink, b"abc", want);
     }
     assert!(rt; sink.into_inner().flushes == 3);
-}
-
-fn is_shared<T: Send + Sync>() {}
-
-fn adapters_are_shared<R: Read + Send + Sync, W: Write + Send + Sync>() {
-    is_shared::<StdSource<R>>();
-    is_shared::<StdSink<W>>();
-}
-
-#[test]
-fn sources_and_sinks_may_go_to_another_thread() {
-    is_shared::<Failed>();
-    is_shared::<MemorySource>();
-    is_shared::<SteadySource>();
-    is_shared::<MemorySink>();
-    is_shared::<SteadySink>();
-    adapters_are_shared::<&[u8], Vec<u8>>();
-}
-
-#[test]
-fn two_lanes_share_a_gate() {
-    is_shared::<IdleGate>();
-    is_shared::<MeetGate>();
-    is_shared::<HoldGate>();
 }

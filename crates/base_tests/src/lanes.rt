@@ -1,11 +1,13 @@
+//! Sections of both lanes under the lock, each with an entry: in two threads, and in turn on one.
+
 ghost use Rattle.std.specs.Prelude.{◌≡◌, ◌+◌, ◌^◌, ◌<◌, [], OnOk, IfOk};
 ghost use Rattle.anim_names.specs.declared.lane.Lane.TheVariants.{Main, Compositor};
 ghost use Rattle.commit_lock.specs.Journals.{entries_of};
-ghost use Rattle.commit_lock.specs.Notes.{note_of, notes};
+ghost use Rattle.base_tests.specs.Notes.{note_of, notes};
 
-use super::diary::Notes;
-use crate::{CommitLock, LaneSeat};
+use crate::diary::Notes;
 use anim_names::{Entry, EntryKind, Lane};
+use commit_lock::{CommitLock, LaneSeat};
 use std::alloc::{AllocError, Global};
 use std::sync::Wait;
 use std::sync::atomic::{AtomicU64, Ordering};
@@ -24,7 +26,7 @@ fn note_of(lane: Lane, upto: u32) -> Entry
 }
 
 // Makes one section more than were made, with an entry.
-#[tactic(auto, using(crate::proofs::Grown::grown_by_one, crate::proofs::Grown::grown_by_none))]
+#[tactic(auto, using(commit_lock::proofs::Grown::grown_by_one, commit_lock::proofs::Grown::grown_by_none))]
 fn make_section<V: Notes, R: Wait>(
     rt: &R,
     lock: &CommitLock<V>,

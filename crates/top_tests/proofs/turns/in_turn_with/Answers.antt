@@ -1,5 +1,5 @@
 use Rattle.anim_top.proofs.Beginning.{may_replay}
-use Rattle.anim_top.proofs.tests.running.in_turn_with.Goals as goal
+use Rattle.top_tests.proofs.turns.in_turn_with.Goals as goal
 
 pub in_turn-requires : goal.in_turn-requires
 in_turn-requires g c =

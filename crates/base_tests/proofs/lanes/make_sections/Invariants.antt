@@ -1,6 +1,6 @@
 use Rattle.std.proofs.Common.{◌≡◌}
-use Rattle.commit_lock.specs.Notes.{notes}
-use Rattle.commit_lock.proofs.tests.lanes.make_sections.Given as goal
+use Rattle.base_tests.specs.Notes.{notes}
+use Rattle.base_tests.proofs.lanes.make_sections.Given as goal
 
 -- each section so far added one entry of the lane's own
 abbrev pub invariant-loop-made : goal.invariant-loop-made

@@ -1,5 +1,7 @@
-use crate::{Gate, HoldGate, IdleGate, MeetGate};
+//! The gates before the steps of lanes, alone and with both lanes.
+
 use anim_names::Lane;
+use edge_io::{Gate, HoldGate, IdleGate, MeetGate};
 use std::sync::atomic::{AtomicU32, Ordering};
 use std::thread;
 

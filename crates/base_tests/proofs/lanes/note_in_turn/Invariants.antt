@@ -1,7 +1,7 @@
 use Rattle.std.proofs.Common.{◌≡◌}
 use Rattle.anim_names.specs.declared.lane.Lane.TheVariants.{Main, Compositor}
-use Rattle.commit_lock.specs.Notes.{notes}
-use Rattle.commit_lock.proofs.tests.lanes.note_in_turn.Given as goal
+use Rattle.base_tests.specs.Notes.{notes}
+use Rattle.base_tests.proofs.lanes.note_in_turn.Given as goal
 
 -- each lane has made as many sections
 abbrev pub invariant-loop-made : goal.invariant-loop-made

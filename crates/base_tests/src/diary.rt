@@ -1,8 +1,10 @@
+//! A value with a journal, for the lock.
+
 ghost use Rattle.std.specs.Prelude.{◌≡◌, List, [], ◌∷◌, ◌++◌, OnOk, OnErr};
 ghost use Rattle.anim_names.specs.declared.entry.Entry.{Entry};
 
-use crate::Journaled;
 use anim_names::Entry;
+use commit_lock::Journaled;
 use std::alloc::{AllocError, Global};
 
 /// A journal to which entries can be added.
