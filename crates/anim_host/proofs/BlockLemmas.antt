@@ -2,6 +2,7 @@
 use Rattle.std.proofs.Common.{◌≡◌, ◌≢◌, ◌⊎◌, ℕ, Bool, true, false, not, ◌||◌, List, [], ◌∷◌, ◌++◌, Option, Some, None, refl, sym, ap, ◌∙◌, filter, inl, inr}
 use Rattle.std.specs.Prelude.{◌==◌, ◌&&◌, ℤ, filter_map, if◌then◌else◌}
 use Rattle.std.specs.List.{list_any, cons_option}
+use Rattle.std.proofs.Math.Bool.{or-false}
 use Rattle.std.proofs.lemmas.Bool.{eq-eqb, eqb-true}
 use Rattle.std.proofs.lemmas.Bool.Decides.{eqb_tells}
 use Rattle.anim_names.specs.declared.property.Property.{Property}
@@ -19,7 +20,7 @@ use Rattle.host_tables.specs.Blocks.{BlocksStand, IsReleased, is_held_by}
 use Rattle.host_tables.specs.States.{is_among}
 use Rattle.anim_host.proofs.FitLemmas.{both-ways, ended-before}
 use Rattle.host_tables.proofs.ElementLemmas.{apart-test, eq-flip}
-use Rattle.host_tables.proofs.StateLemmas.{ended-more, one_any, or_none}
+use Rattle.host_tables.proofs.StateLemmas.{ended-more, one_any}
 
 -- ---- tests
 
@@ -94,7 +95,7 @@ there-running models marks (Aborted id commit) group there is alive = cc
 
 pub alive-same : (marks : List Mark) (id group element : ℕ) (property : Property) (at : ℕ) (start : ℤ) (other : ℕ)
     → is_ended (marks ++ Started id group element property at start ∷ []) other ≡ is_ended marks other
-alive-same marks id group element property at start other = ended-more marks (Started id group element property at start) other ∙ or_none (is_ended marks other)
+alive-same marks id group element property at start other = ended-more marks (Started id group element property at start) other ∙ or-false (is_ended marks other)
 
 -- the starting group runs
 pub start-runs : (marks : List Mark) (id group element : ℕ) (property : Property) (at : ℕ) (start : ℤ) → is_ended marks id ≡ false
@@ -127,7 +128,7 @@ blocks-elsewhere marks id group element property at start other e p differ =
     let on = λ (k : Mark). starts_in other k && starts_on e p k in
     ap (λ b. b && list_any on (marks ++ mark ∷ [])) (start-elsewhere marks id group element property at start other differ)
     ∙ ap (λ b. is_group_running marks other && b)
-    (one_any on marks mark ∙ ap (λ b. list_any on marks || (b && (e == element && same_property p property))) (apart-test other group differ) ∙ or_none (list_any on marks))
+    (one_any on marks mark ∙ ap (λ b. list_any on marks || (b && (e == element && same_property p property))) (apart-test other group differ) ∙ or-false (list_any on marks))
 
 property-is : (a b : Property) → is_property a b ≡ true → a ≡ b
 property-is Opacity Opacity is = refl
@@ -197,7 +198,7 @@ start-blocks table new marks id group element property at start stand whole aliv
         or-last : (b : Bool) → (b || true) ≡ true
         or-last true = refl
         or-last false = refl
-    own false is held = held refl ∙ sym (or_none (list_any (λ (k : Mark). starts_in g k && starts_on e p k) marks))
+    own false is held = held refl ∙ sym (or-false (list_any (λ (k : Mark). starts_in g k && starts_on e p k) marks))
 
 -- ---- one more end
 
@@ -239,7 +240,7 @@ end-on : (marks : List Mark) (mark : Mark) (g e : ℕ) (p : Property) → ((grou
     → list_any (λ (k : Mark). starts_in g k && starts_on e p k) (marks ++ mark ∷ []) ≡ list_any (λ (k : Mark). starts_in g k && starts_on e p k) marks
 end-on marks mark g e p end =
     let on = λ (k : Mark). starts_in g k && starts_on e p k in
-    one_any on marks mark ∙ ap (λ b. list_any on marks || (b && starts_on e p mark)) (end g) ∙ or_none (list_any on marks)
+    one_any on marks mark ∙ ap (λ b. list_any on marks || (b && starts_on e p mark)) (end g) ∙ or-false (list_any on marks)
 
 -- where the model's group still runs, all is blocked that was
 pub end-keeps : (models : List Spec) (table : Anims) (marks : List Mark) (mark : Mark) (model : Spec)

@@ -4,6 +4,7 @@ use Rattle.std.specs.Prelude.{◌==◌, ◌&&◌, slice_get, ℤ, if◌then◌el
 use Rattle.std.specs.List.{list_all, list_any, cons_option, AllByRecursion}
 use Rattle.std.proofs.lemmas.List.Elements.{filter_map-append}
 use Rattle.anim_names.specs.declared.property.Property.{Property}
+use Rattle.std.proofs.Math.Bool.{or-false}
 use Rattle.std.proofs.lemmas.Bool.{eq-eqb, eqb-true}
 use Rattle.std.proofs.lemmas.Bool.Decides.{eqb_tells}
 use Rattle.std.proofs.lemmas.List.{append-nil}
@@ -23,7 +24,7 @@ use Rattle.host_tables.specs.Shapes.{at_places}
 use Rattle.anim_host.proofs.BlockLemmas.{among-model, and-first, and-second, clash, ends-of, none-blocks, not-true, running-starts, start-runs, started-group-of}
 use Rattle.host_tables.proofs.ShapeLemmas.{below-append}
 use Rattle.anim_host.proofs.FitLemmas.{both-ways, started-in-more}
-use Rattle.host_tables.proofs.StateLemmas.{ended-more, or_none, started-grows}
+use Rattle.host_tables.proofs.StateLemmas.{ended-more, started-grows}
 
 or-either : {A : Type 0} (a b : Bool) → (a || b) ≡ true → (a ≡ true → A) → (b ≡ true → A) → A
 or-either true b is one two = one refl
@@ -56,7 +57,7 @@ starts-keep tree tick marks (model ∷ models) id =
     ap (λ (l : List Mark). is_ended l id) (sym (append_assoc marks (start_mark tree tick model ∷ []) (map (start_mark tree tick) models)))
     ∙ starts-keep tree tick (marks ++ start_mark tree tick model ∷ []) models id
     ∙ ended-more marks (start_mark tree tick model) id
-    ∙ or_none (is_ended marks id)
+    ∙ or-false (is_ended marks id)
 
 -- what started stays started
 starts-grow : (tree : TreeLists) (tick : ℕ) (marks : List Mark) (models : List Spec) (id : ℕ) → is_started marks id ≡ true

@@ -2,6 +2,7 @@
 use Rattle.std.proofs.Common.{◌≡◌, ◌≢◌, ℕ, ◌+◌, Bool, true, false, ◌||◌, List, [], ◌∷◌, ◌++◌, length, map, take, drop, Option, Some, None, refl, sym, ap, ◌∙◌, subst, ◌≤◌, nat_eq, add-one, inl, inr}
 use Rattle.std.specs.Prelude.{slice_get, ◌==◌, option_map, option_and_then, IfSome}
 use Rattle.std.specs.List.{IsDistinct}
+use Rattle.std.proofs.Math.Bool.{or-false}
 use Rattle.std.proofs.lemmas.Bool.{eq-eqb}
 use Rattle.std.proofs.lemmas.Bool.Decides.{eqb_tells}
 use Rattle.std.proofs.lemmas.Option.{none-some, same_Some}
@@ -105,14 +106,10 @@ joined-next at new active pending marks i model found waits here others stand id
           ap (λ (k : ℕ). is_among (take k pending) id) (add-one i)
           ∙ among-taken pending i model id found
           ∙ ap (λ b. is_among (take i pending) id || b) f.0
-          ∙ or-none (is_among (take i pending) id) in
+          ∙ or-false (is_among (take i pending) id) in
           others id f.1 ∙ stand id ∙ ap (λ (b : Bool). row_if (is_among active id) b marks id) (sym same)
     ]
   where
-    or-none : (b : Bool) → (b || false) ≡ b
-    or-none true = refl
-    or-none false = refl
-
     or-fact : (a b : Bool) → b ≡ true → (a || b) ≡ true
     or-fact true b is = refl
     or-fact false b is = is
@@ -185,16 +182,12 @@ entered-next at new models marks i model differ found here others stand id =
           ap (λ (k : ℕ). is_among (take k models) id) (add-one i)
           ∙ among-taken models i model id found
           ∙ ap (λ b. is_among (take i models) id || b) f.0
-          ∙ or-none (is_among (take i models) id) in
+          ∙ or-false (is_among (take i models) id) in
           others id f.1
           ∙ stand id
           ∙ ap (λ (b : Bool). row_if (is_among (take i models) id) b marks id) left
           ∙ ap (λ (b : Bool). row_if b (is_among (drop (i + 1) models) id) marks id) (sym taken)
     ]
-  where
-    or-none : (b : Bool) → (b || false) ≡ b
-    or-none true = refl
-    or-none false = refl
 
 -- ---- what a row says
 

@@ -1,8 +1,9 @@
 -- Models of a commit by their places: no two have one id.
-use Rattle.std.proofs.Common.{◌≡◌, ℕ, zero, suc, ◌+◌, Bool, true, false, ◌||◌, List, [], ◌∷◌, map, take, drop, Some, refl, sym, ap, ◌∙◌, nat_eq, inl, inr}
+use Rattle.std.proofs.Common.{◌≡◌, ℕ, zero, suc, ◌+◌, true, false, ◌||◌, List, [], ◌∷◌, map, take, drop, Some, refl, sym, ap, ◌∙◌, nat_eq, inl, inr}
 use Rattle.std.specs.Prelude.{slice_get, ◌==◌}
 use Rattle.std.specs.List.{IsDistinct, AllByRecursion}
 use Rattle.std.proofs.lemmas.Bool.{eq-eqb}
+use Rattle.std.proofs.Math.Bool.{or-false, or_assoc}
 use Rattle.std.proofs.lemmas.Bool.Decides.{eqb_tells}
 use Rattle.std.proofs.lemmas.Option.{none-some, same_Some}
 use Rattle.std.proofs.lemmas.Map.Keys.{IsDistinct-head, IsDistinct-tail}
@@ -11,23 +12,15 @@ use Rattle.tree_commit.proofs.Among.{among-found, among-has}
 use Rattle.host_tables.specs.States.{is_among}
 use Rattle.host_tables.proofs.LoopLemmas.{drop-found}
 
-or-none : (b : Bool) → (b || false) ≡ b
-or-none true = refl
-or-none false = refl
-
 -- one more of the first models
 pub among-taken : (models : List Spec) (i : ℕ) (model : Spec) (id : ℕ) → slice_get models i ≡ Some model
     → is_among (take (suc i) models) id ≡ (is_among (take i models) id || (id == model.id))
 among-taken [] i model id found = absurd (none-some model found)
 among-taken (x ∷ models) zero model id found =
-    or-none (id == x.id) ∙ ap (λ (m : Spec). id == m.id) (same_Some x model found)
+    or-false (id == x.id) ∙ ap (λ (m : Spec). id == m.id) (same_Some x model found)
 among-taken (x ∷ models) (suc i) model id found =
     ap (λ b. (id == x.id) || b) (among-taken models i model id found)
-    ∙ assoc (id == x.id) (is_among (take i models) id) (id == model.id)
-  where
-    assoc : (a b c : Bool) → (a || (b || c)) ≡ ((a || b) || c)
-    assoc true b c = refl
-    assoc false b c = refl
+    ∙ sym (or_assoc (id == x.id) (is_among (take i models) id) (id == model.id))
 
 -- one fewer of the models that are left
 pub among-left : (models : List Spec) (i : ℕ) (model : Spec) (id : ℕ) → slice_get models i ≡ Some model

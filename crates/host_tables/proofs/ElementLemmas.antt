@@ -3,6 +3,7 @@ use Rattle.std.proofs.Common.{◌≡◌, ◌≢◌, ℕ, zero, suc, ◌+◌, Boo
 use Rattle.std.specs.Prelude.{◌==◌, ◌&&◌, slice_get, if◌then◌else◌}
 use Rattle.std.proofs.lemmas.Option.{none-some, same_Some}
 use Rattle.std.proofs.lemmas.Bool.{eq-eqb}
+use Rattle.std.proofs.Math.Bool.{or-false, or_assoc}
 use Rattle.std.proofs.lemmas.Bool.Decides.{eqb_tells}
 use Rattle.anim_names.specs.declared.lane.Tree.{Tree}
 use Rattle.anim_names.specs.declared.property.Property.{Property}
@@ -12,7 +13,6 @@ use Rattle.tree_commit.specs.declared.runs.mark.Mark.{Mark}
 use Rattle.tree_commit.specs.Trees.{Committed, Element, has_element}
 use Rattle.host_tables.specs.Blocks.{BlocksStand, is_held_by}
 use Rattle.host_tables.specs.Elements.{AreSet, PresenceStands, has_in, is_listed}
-use Rattle.host_tables.proofs.StateLemmas.{or_none}
 
 pub apart-test : (a b : ℕ) → a ≢ b → (a == b) ≡ false
 apart-test a b differ = elim (eqb_tells a b) [ inl t ↦ absurd (differ t.1) | inr f ↦ f.0 ]
@@ -20,16 +20,12 @@ apart-test a b differ = elim (eqb_tells a b) [ inl t ↦ absurd (differ t.1) | i
 pub eq-flip : (a b : ℕ) → (a == b) ≡ (b == a)
 eq-flip a b = elim (eqb_tells a b) [ inl t ↦ t.0 ∙ sym (eq-eqb b a (sym t.1)) | inr f ↦ f.0 ∙ sym (apart-test b a (λ same. f.1 (sym same))) ]
 
-or-assoc : (a b c : Bool) → (a || (b || c)) ≡ ((a || b) || c)
-or-assoc true b c = refl
-or-assoc false b c = refl
-
 listed-taken : (elements : List Element) (i : ℕ) (element : Element) (id : ℕ) → slice_get elements i ≡ Some element
     → is_listed (take (suc i) elements) id ≡ (is_listed (take i elements) id || (id == element.id))
 listed-taken [] i element id found = absurd (none-some element found)
-listed-taken (x ∷ elements) zero element id found = or_none (id == x.id) ∙ ap (λ (m : Element). id == m.id) (same_Some x element found)
+listed-taken (x ∷ elements) zero element id found = or-false (id == x.id) ∙ ap (λ (m : Element). id == m.id) (same_Some x element found)
 listed-taken (x ∷ elements) (suc i) element id found =
-    ap (λ b. (id == x.id) || b) (listed-taken elements i element id found) ∙ or-assoc (id == x.id) (is_listed (take i elements) id) (id == element.id)
+    ap (λ b. (id == x.id) || b) (listed-taken elements i element id found) ∙ sym (or_assoc (id == x.id) (is_listed (take i elements) id) (id == element.id))
 
 -- an element that is found at a place is listed
 pub found-listed : (elements : List Element) (i : ℕ) (element : Element) → slice_get elements i ≡ Some element → is_listed elements element.id ≡ true

@@ -1,7 +1,8 @@
 -- Rows of groups: what one more mark changes, and what one more model does.
-use Rattle.std.proofs.Common.{◌≡◌, ◌≢◌, ℕ, suc, zero, ◌+◌, ◌≤◌, Bool, true, false, ◌||◌, List, [], ◌∷◌, ◌++◌, length, map, take, filter, cond, Option, Some, None, refl, sym, ap, ◌∙◌, subst, nat_eq, arith, inl, inr}
+use Rattle.std.proofs.Common.{◌≡◌, ◌≢◌, ℕ, suc, zero, ◌+◌, ◌≤◌, Bool, true, false, List, [], ◌∷◌, ◌++◌, length, map, take, filter, cond, Option, Some, None, refl, sym, ap, ◌∙◌, subst, nat_eq, arith, inl, inr}
 use Rattle.std.specs.Prelude.{◌-◌, ◌==◌, ◌&&◌, slice_get, count_by, option_map, IfSome}
 use Rattle.std.specs.List.{IsDistinct, AllByRecursion}
+use Rattle.std.proofs.Math.Bool.{or-false}
 use Rattle.std.proofs.lemmas.Bool.{eq-eqb}
 use Rattle.std.proofs.lemmas.Bool.Decides.{eqb_tells}
 use Rattle.std.proofs.lemmas.List.{append-nil}
@@ -289,10 +290,6 @@ taken [] i x found = absurd (none-some x found)
 taken (y ∷ ys) zero x found = ap (λ z. z ∷ []) (same_Some y x found)
 taken (y ∷ ys) (suc i) x found = ap (λ zs. y ∷ zs) (taken ys i x found)
 
-or-nothing : (b : Bool) → (b || false) ≡ b
-or-nothing true = refl
-or-nothing false = refl
-
 row-joined : (marks : List Mark) (state : RunState) (model : Spec) (members : List Spec)
     → effect.is_waiting state ≡ is_waiting marks model.id → effect.is_unfinished state ≡ is_running marks model.id
     → row_of_members marks model.group (members ++ model ∷ []) ≡ Some (joined_row model state (row_of_members marks model.group members))
@@ -302,8 +299,8 @@ row-joined marks state model [] waits runs = λ i.
       element = model.element;
       waiting = (count-one (λ (m : Spec). is_waiting marks m.id) model ∙ ap one_if (sym waits)) i;
       unfinished = (count-one (λ (m : Spec). is_running marks m.id) model ∙ ap one_if (sym runs)) i;
-      opacity = or-nothing (same_property Opacity (property_of model)) i;
-      transform = or-nothing (same_property Transform (property_of model)) i;
+      opacity = or-false (same_property Opacity (property_of model)) i;
+      transform = or-false (same_property Transform (property_of model)) i;
     })
 row-joined marks state model (first ∷ mates) waits runs = λ i.
     Some (record {

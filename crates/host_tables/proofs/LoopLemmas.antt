@@ -4,6 +4,7 @@ use Rattle.std.specs.Prelude.{slice_get, ◌&&◌, ◌||◌, filter_map, fold, u
 use Rattle.std.specs.List.{list_any, list_all, cons_option}
 use Rattle.std.proofs.lemmas.List.{drop_all, drop_more, append-nil}
 use Rattle.std.proofs.lemmas.Option.{slice_get_within, unwrap_or-slice_get}
+use Rattle.std.proofs.Math.Bool.{and-true, and_assoc, or-false, or_assoc}
 
 -- the element at an index comes first of what is left from there on
 pub drop-found : {X : Type 0} (xs : List X) (i : ℕ) (x : X) → slice_get xs i ≡ Some x → drop i xs ≡ x ∷ drop (i + 1) xs
@@ -37,22 +38,6 @@ made-last F xs i made all past none so_far =
 
 -- ---- tests
 
-and_assoc : (a b c : Bool) → ((a && b) && c) ≡ (a && (b && c))
-and_assoc true b c = refl
-and_assoc false b c = refl
-
-and_true : (a : Bool) → (a && true) ≡ a
-and_true true = refl
-and_true false = refl
-
-or_assoc : (a b c : Bool) → ((a || b) || c) ≡ (a || (b || c))
-or_assoc true b c = refl
-or_assoc false b c = refl
-
-or_false : (a : Bool) → (a || false) ≡ a
-or_false true = refl
-or_false false = refl
-
 pub all-next : {X : Type 0} (F : List X → Bool) (xs : List X) (i : ℕ) (x : X) (so_far now step all : Bool)
     → slice_get xs i ≡ Some x
     → F (x ∷ drop (i + 1) xs) ≡ (step && F (drop (i + 1) xs))
@@ -71,7 +56,7 @@ pub all-last : {X : Type 0} (F : List X → Bool) (xs : List X) (i : ℕ) (so_fa
     → (so_far && F (drop i xs)) ≡ all
     → so_far ≡ all
 all-last F xs i so_far all past none before =
-    sym (and_true so_far) ∙ ap (λ b. so_far && b) (sym (ap F (drop_all i xs past) ∙ none)) ∙ before
+    sym (and-true so_far) ∙ ap (λ b. so_far && b) (sym (ap F (drop_all i xs past) ∙ none)) ∙ before
 
 pub any-next : {X : Type 0} (F : List X → Bool) (xs : List X) (i : ℕ) (x : X) (so_far now step all : Bool)
     → slice_get xs i ≡ Some x
@@ -91,7 +76,7 @@ pub any-last : {X : Type 0} (F : List X → Bool) (xs : List X) (i : ℕ) (so_fa
     → (so_far || F (drop i xs)) ≡ all
     → so_far ≡ all
 any-last F xs i so_far all past none before =
-    sym (or_false so_far) ∙ ap (λ b. so_far || b) (sym (ap F (drop_all i xs past) ∙ none)) ∙ before
+    sym (or-false so_far) ∙ ap (λ b. so_far || b) (sym (ap F (drop_all i xs past) ∙ none)) ∙ before
 
 -- ---- filters
 

@@ -5,6 +5,7 @@ use Rattle.std.specs.Prelude.{◌&&◌}
 use Rattle.std.specs.List.{list_all, list_any, cons_option, AllByRecursion}
 use Rattle.host_tables.proofs.LoopLemmas.{all-filter}
 use Rattle.std.proofs.lemmas.Bool.Decides.{eqb_tells}
+use Rattle.std.proofs.Math.Bool.{or-false, or_assoc}
 use Rattle.std.proofs.lemmas.Option.{none-some, same_Some}
 use Rattle.std.proofs.lemmas.List.Folds.{list_any-append}
 use Rattle.std.specs.Map.{lookup, set_value}
@@ -190,14 +191,6 @@ lookup-keys group (e ∷ es) =
     is_some (cond b (Some e.1) (lookup (nat_eq group) es)) ≡ (b || list_any (λ other. group == other) (map (λ entry. entry.0) es)))
     [ true ↦ refl | false ↦ lookup-keys group es ]
 
-or-assoc : (a b c : Bool) → ((a || b) || c) ≡ (a || (b || c))
-or-assoc true b c = refl
-or-assoc false b c = refl
-
-or-none : (b : Bool) → (b || false) ≡ b
-or-none true = refl
-or-none false = refl
-
 group-added : (groups : List ℕ) (model : Spec) (group : ℕ) (b : Bool) → list_any (λ other. model.group == other) groups ≡ b
     → list_any (λ other. group == other) (if b then groups else groups ++ model.group ∷ []) ≡ (list_any (λ other. group == other) groups || (group == model.group))
 group-added groups model group true is =
@@ -205,20 +198,20 @@ group-added groups model group true is =
       | inl t ↦
           let there : list_any (λ other. group == other) groups ≡ true = ap (λ (g : ℕ). list_any (λ other. g == other) groups) t.1 ∙ is in
           there ∙ sym (ap (λ b. b || (group == model.group)) there)
-      | inr f ↦ sym (ap (λ b. list_any (λ other. group == other) groups || b) f.0 ∙ or-none (list_any (λ other. group == other) groups))
+      | inr f ↦ sym (ap (λ b. list_any (λ other. group == other) groups || b) f.0 ∙ or-false (list_any (λ other. group == other) groups))
     ]
 group-added groups model group false is =
     list_any-append (λ other. group == other) groups (model.group ∷ [])
-    ∙ ap (λ b. list_any (λ other. group == other) groups || b) (or-none (group == model.group))
+    ∙ ap (λ b. list_any (λ other. group == other) groups || b) (or-false (group == model.group))
 
 pub groups-any : (groups : List ℕ) (models : List Spec) (group : ℕ)
     → list_any (λ other. group == other) (fold with_group_of groups models)
     ≡ (list_any (λ other. group == other) groups || list_any (λ model. group == model.group) models)
-groups-any groups [] group = sym (or-none (list_any (λ other. group == other) groups))
+groups-any groups [] group = sym (or-false (list_any (λ other. group == other) groups))
 groups-any groups (model ∷ models) group =
     groups-any (with_group_of groups model) models group
     ∙ ap (λ b. b || list_any (λ model. group == model.group) models) (group-added groups model group (list_any (λ other. model.group == other) groups) refl)
-    ∙ or-assoc (list_any (λ other. group == other) groups) (group == model.group) (list_any (λ model. group == model.group) models)
+    ∙ or_assoc (list_any (λ other. group == other) groups) (group == model.group) (list_any (λ model. group == model.group) models)
 
 -- a group is there exactly where a model is of it
 pub shape-has : (models : List Spec) (group : ℕ) → is_some (lookup (nat_eq group) (shape_of models)) ≡ list_any (λ model. group == model.group) models

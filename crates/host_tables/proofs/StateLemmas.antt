@@ -3,6 +3,7 @@ use Rattle.std.proofs.Common.{◌≡◌, ◌≢◌, ℕ, ◌+◌, ◌≤◌, Boo
 use Rattle.std.specs.Prelude.{ℤ, is_some, if◌then◌else◌, ◌==◌, ◌&&◌}
 use Rattle.std.specs.List.{list_any}
 use Rattle.std.proofs.lemmas.List.Folds.{list_any-append}
+use Rattle.std.proofs.Math.Bool.{or-false}
 use Rattle.std.proofs.lemmas.Bool.Decides.{eqb_tells}
 use Rattle.anim_names.specs.declared.property.Property.{Property}
 use Rattle.std.proofs.lemmas.Bool.{eq-eqb}
@@ -32,15 +33,7 @@ apart : (id other : ℕ) → id ≢ other → (id == other) ≡ false
 apart id other differ = elim (eqb_tells id other) [ inl t ↦ absurd (differ t.1) | inr f ↦ f.0 ]
 
 pub one_any : {A : Type 0} (p : A → Bool) (xs : List A) (x : A) → list_any p (xs ++ x ∷ []) ≡ (list_any p xs || p x)
-one_any p xs x = list_any-append p xs (x ∷ []) ∙ ap (λ b. list_any p xs || b) (or_no (p x))
-  where
-    or_no : (b : Bool) → (b || false) ≡ b
-    or_no true = refl
-    or_no false = refl
-
-pub or_none : (b : Bool) → (b || false) ≡ b
-or_none true = refl
-or_none false = refl
+one_any p xs x = list_any-append p xs (x ∷ []) ∙ ap (λ b. list_any p xs || b) (or-false (p x))
 
 pub started-more : (marks : List Mark) (mark : Mark) (id : ℕ) → is_started (marks ++ mark ∷ []) id ≡ (is_started marks id || starts id mark)
 started-more marks mark id = one_any (starts id) marks mark
@@ -156,8 +149,8 @@ same-parts marks a e o id no_abort no_end no_start =
     ap (λ (b : Bool). state_from (is_aborted marks id || b) (is_ended marks id || e) (or_start (start_of marks id) o (length marks))) no_abort
     ∙ ap (λ (b : Bool). state_from (is_aborted marks id || false) (is_ended marks id || b) (or_start (start_of marks id) o (length marks))) no_end
     ∙ ap (λ (b : Option ℤ). state_from (is_aborted marks id || false) (is_ended marks id || false) (or_start (start_of marks id) b (length marks))) no_start
-    ∙ ap (λ (b : Bool). state_from b (is_ended marks id || false) (or_start (start_of marks id) None (length marks))) (or_none (is_aborted marks id))
-    ∙ ap (λ (b : Bool). state_from (is_aborted marks id) b (or_start (start_of marks id) None (length marks))) (or_none (is_ended marks id))
+    ∙ ap (λ (b : Bool). state_from b (is_ended marks id || false) (or_start (start_of marks id) None (length marks))) (or-false (is_aborted marks id))
+    ∙ ap (λ (b : Bool). state_from (is_aborted marks id) b (or_start (start_of marks id) None (length marks))) (or-false (is_ended marks id))
     ∙ ap (λ (s : Option Shown). state_from (is_aborted marks id) (is_ended marks id) s) (kept (start_of marks id) (length marks))
 
 pub state-other : (marks : List Mark) (mark : Mark) (id : ℕ) → id ≢ model_of mark → state_of (marks ++ mark ∷ []) id ≡ state_of marks id
@@ -180,15 +173,15 @@ state-here marks (Started id group element property at start) fits =
     let fact : (id == id) ≡ true = eq-eqb id id refl in
     parts marks (Started id group element property at start) id
     ∙ ap (λ (b : Bool). state_from (is_aborted marks id || false) (is_ended marks id || false) (or_start (start_of marks id) (if b then Some start else None) (length marks))) fact
-    ∙ ap (λ (b : Bool). state_from b (is_ended marks id || false) (or_start (start_of marks id) (Some start) (length marks))) (or_none (is_aborted marks id))
-    ∙ ap (λ (b : Bool). state_from (is_aborted marks id) b (or_start (start_of marks id) (Some start) (length marks))) (or_none (is_ended marks id))
+    ∙ ap (λ (b : Bool). state_from b (is_ended marks id || false) (or_start (start_of marks id) (Some start) (length marks))) (or-false (is_aborted marks id))
+    ∙ ap (λ (b : Bool). state_from (is_aborted marks id) b (or_start (start_of marks id) (Some start) (length marks))) (or-false (is_ended marks id))
     ∙ started-next (is_aborted marks id) (is_ended marks id) (start_of marks id) (Started id group element property at start) start (length marks)
     (λ e a. start_of-started marks id ∙ fits id e a) id group element property at
 state-here marks (Finished id at) fits =
     let fact : (id == id) ≡ true = eq-eqb id id refl in
     parts marks (Finished id at) id
     ∙ ap (λ (b : Bool). state_from (is_aborted marks id || false) (is_ended marks id || b) (or_start (start_of marks id) None (length marks))) fact
-    ∙ ap (λ (b : Bool). state_from b (is_ended marks id || true) (or_start (start_of marks id) None (length marks))) (or_none (is_aborted marks id))
+    ∙ ap (λ (b : Bool). state_from b (is_ended marks id || true) (or_start (start_of marks id) None (length marks))) (or-false (is_aborted marks id))
     ∙ finished-next (is_aborted marks id) (is_ended marks id) (start_of marks id) id at (length marks)
 state-here marks (Aborted id commit) fits =
     let fact : (id == id) ≡ true = eq-eqb id id refl in
@@ -287,25 +280,25 @@ pub finishes-started : (marks : List Mark) (mark : Mark) → FinishesStarted mar
     → (ends (model_of mark) mark ≡ true → aborts (model_of mark) mark ≡ false → is_started marks (model_of mark) ≡ true)
     → FinishesStarted (marks ++ mark ∷ [])
 finishes-started marks (Started model group element property at start) fits had = λ id ended alive.
-    let e : is_ended marks id ≡ true = sym (ended-more marks (Started model group element property at start) id ∙ or_none (is_ended marks id)) ∙ ended in
-    let a : is_aborted marks id ≡ false = sym (aborted-more marks (Started model group element property at start) id ∙ or_none (is_aborted marks id)) ∙ alive in
+    let e : is_ended marks id ≡ true = sym (ended-more marks (Started model group element property at start) id ∙ or-false (is_ended marks id)) ∙ ended in
+    let a : is_aborted marks id ≡ false = sym (aborted-more marks (Started model group element property at start) id ∙ or-false (is_aborted marks id)) ∙ alive in
     started-more marks (Started model group element property at start) id ∙ or-first (is_started marks id) (id == model) (fits id e a)
 finishes-started marks (Finished model at) fits had = λ id ended alive.
     let e : (is_ended marks id || (id == model)) ≡ true = sym (ended-more marks (Finished model at) id) ∙ ended in
-    let a : is_aborted marks id ≡ false = sym (aborted-more marks (Finished model at) id ∙ or_none (is_aborted marks id)) ∙ alive in
+    let a : is_aborted marks id ≡ false = sym (aborted-more marks (Finished model at) id ∙ or-false (is_aborted marks id)) ∙ alive in
     started-more marks (Finished model at) id
-    ∙ or_none (is_started marks id)
+    ∙ or-false (is_started marks id)
     ∙ elim (eqb_tells id model) [
       | inl t ↦ ap (is_started marks) t.1 ∙ had (eq-eqb model model refl) refl
-      | inr f ↦ fits id (sym (ap (λ b. is_ended marks id || b) f.0 ∙ or_none (is_ended marks id)) ∙ e) a
+      | inr f ↦ fits id (sym (ap (λ b. is_ended marks id || b) f.0 ∙ or-false (is_ended marks id)) ∙ e) a
     ]
 finishes-started marks (Aborted model commit) fits had = λ id ended alive.
     let e : (is_ended marks id || (id == model)) ≡ true = sym (ended-more marks (Aborted model commit) id) ∙ ended in
     let a : (is_aborted marks id || (id == model)) ≡ false = sym (aborted-more marks (Aborted model commit) id) ∙ alive in
     let none = or-neither (is_aborted marks id) (id == model) a in
     started-more marks (Aborted model commit) id
-    ∙ or_none (is_started marks id)
-    ∙ fits id (sym (ap (λ b. is_ended marks id || b) none.1 ∙ or_none (is_ended marks id)) ∙ e) none.0
+    ∙ or-false (is_started marks id)
+    ∙ fits id (sym (ap (λ b. is_ended marks id || b) none.1 ∙ or-false (is_ended marks id)) ∙ e) none.0
 
 -- what is shown of a model is in range
 pub shown-within : (marks : List Mark) (id : ℕ) → StartsAreWithin marks → IfSome (shown_by marks id) (λ s. unsigned_abs s.start ≤ LAST_TIME)
@@ -342,8 +335,8 @@ pub abort-elsewhere : (marks : List Mark) (b : Bool) (model commit id : ℕ) →
     → (is_started (marks ++ mark_if b (Aborted model commit)) id ≡ is_started marks id)
     × (is_ended (marks ++ mark_if b (Aborted model commit)) id ≡ is_ended marks id)
 abort-elsewhere marks true model commit id other = (
-  started-more marks (Aborted model commit) id ∙ or_none (is_started marks id),
-  ended-more marks (Aborted model commit) id ∙ ap (λ b. is_ended marks id || b) (apart id model other) ∙ or_none (is_ended marks id),
+  started-more marks (Aborted model commit) id ∙ or-false (is_started marks id),
+  ended-more marks (Aborted model commit) id ∙ ap (λ b. is_ended marks id || b) (apart id model other) ∙ or-false (is_ended marks id),
 )
 abort-elsewhere marks false model commit id other = (ap (λ (l : List Mark). is_started l id) (append-nil marks), ap (λ (l : List Mark). is_ended l id) (append-nil marks))
 
