@@ -33,7 +33,6 @@ pub(crate) fn ascent(x1: u32, x2: u32, rest: u32, s: u32) -> u64
 }
 
 /// How high the curve is at step s, in the same unit.
-#[tactic(auto, using(crate::proofs::Rising::weights_le))]
 pub(crate) fn height(y1: i32, y2: i32, s: u32) -> i128
     requires first { unsigned_abs y1 ≤ LARGEST_Y }
     requires second { unsigned_abs y2 ≤ LARGEST_Y }

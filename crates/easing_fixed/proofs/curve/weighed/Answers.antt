@@ -1,17 +1,29 @@
-use Rattle.std.proofs.Common.{ℕ, ◌*◌, ◌^◌, ◌<◌, ◌≤◌, ℤ, pos, ◌*ℤ◌, unsigned_abs, to_z, of_z, w32, lit<, ◌∙◌, arith}
+-- The factors are the same at 128 bits, and small enough for their product to fit there.
+use Rattle.std.proofs.Common.{◌≡◌, ℕ, ◌^◌, ◌<◌, ◌≤◌, ℤ, pos, ◌*ℤ◌, unsigned_abs, to_z, of_z, w32, FitsSigned, arith}
 use Rattle.std.specs.Int.{w128}
 use Rattle.std.proofs.Math.Nat.{mul-le-mul_left}
-use Rattle.std.proofs.lemmas.Int.{to_z-of_z, unsigned_abs-mul, fits_signed_from_abs, fits_signed_mul}
+use Rattle.std.proofs.lemmas.Int.{to_z-of_z, unsigned_abs-mul, fits_signed_mul, ints}
 use Rattle.easing_fixed.specs.declared.TheConstants.{LARGEST_Y}
 use Rattle.easing_fixed.proofs.curve.weighed.Goals as goal
 
-product_le : (weight : ℕ) (y : ℤ) → weight < 2 ^ 64 → unsigned_abs y ≤ LARGEST_Y → unsigned_abs (to_z w128 (of_z w128 (to_z w128 (of_z w128 (pos weight)) *ℤ to_z w128 (of_z w128 y)))) ≤ weight * LARGEST_Y
-product_le weight y fits size =
-    let weight_fits = fits_signed_from_abs w128 (pos weight) (omega arith) in
-    let y_fits = fits_signed_from_abs w128 y (omega arith) in
-    let product_fits = fits_signed_mul w128 (pos weight) y (2 ^ 64) LARGEST_Y (omega arith) size (lit< tt) in
-    simp to_z-of_z (rw unsigned_abs-mul (mul-le-mul_left weight size))
+widened_weight : (weight : ℕ) (wide : ℤ) → weight < 2 ^ 64 → wide ≡ pos weight → to_z w128 (of_z w128 wide) ≡ pos weight
+widened_weight weight wide fits is = omega (arith, ints)
+
+widened : (y wide : ℤ) → FitsSigned w32 y → wide ≡ to_z w32 (of_z w32 y) → to_z w128 (of_z w128 wide) ≡ y
+widened y wide fits is = omega (arith, ints)
+
+product_fits : (weight : ℕ) (y : ℤ) → weight ≤ 2 ^ 64 → unsigned_abs y ≤ LARGEST_Y → FitsSigned w128 (pos weight *ℤ y)
+product_fits weight y weight_within y_within = fits_signed_mul w128 (pos weight) y (2 ^ 64) LARGEST_Y weight_within y_within (omega arith)
+
+pub overflow_mul-result : goal.overflow_mul-result
+overflow_mul-result c =
+    rw (widened_weight c.args.weight c.from.result (omega arith) c.from.ensures, widened c.args.y c.from-2.result c.ranges.y c.from-2.ensures)
+    (product_fits c.args.weight c.args.y (omega arith) c.requires)
+
+pub returns-clause-value : goal.returns-clause-value
+returns-clause-value c =
+    rw (widened_weight c.args.weight c.from.result (omega arith) c.from.ensures, widened c.args.y c.from-2.result c.ranges.y c.from-2.ensures)
+    (to_z-of_z w128 _ (product_fits c.args.weight c.args.y (omega arith) c.requires))
 
 pub returns-clause-size : goal.returns-clause-size
-returns-clause-size c =
-    rw (c.from.ensures, c.from-2.ensures ∙ to_z-of_z w32 c.args.y c.ranges.y) (product_le c.args.weight c.args.y (omega arith) c.requires)
+returns-clause-size c = rw (returns-clause-value c, unsigned_abs-mul) (mul-le-mul_left c.args.weight c.requires)
