@@ -1,4 +1,4 @@
-ghost use Rattle.std.specs.Prelude.{◌≡◌, ◌≤◌, ◌↔◌, IsTrue, unsigned_abs};
+ghost use Rattle.std.specs.Prelude.{◌≡◌, ◌≤◌, ◌↔◌, ◌&&◌, IsTrue, unsigned_abs};
 ghost use Rattle.value_blend.specs.declared.TheConstants.{LARGEST_PROGRESS};
 ghost use Rattle.value_blend.specs.Blends.{IsNumber, is_number};
 
@@ -28,11 +28,9 @@ impl TransformOp {
         ensures numbers { IsTrue result ↔ IsOperation self }
     {
         match self {
-            TransformOp::Translate { x, y, z } => is_number(x) && is_number(y) && is_number(z),
-            TransformOp::Scale { x, y, z } => is_number(x) && is_number(y) && is_number(z),
-            TransformOp::Rotate { x, y, z, angle } => {
-                is_number(x) && is_number(y) && is_number(z) && is_number(angle)
-            }
+            TransformOp::Translate { x, y, z } => are_numbers(x, y, z),
+            TransformOp::Scale { x, y, z } => are_numbers(x, y, z),
+            TransformOp::Rotate { x, y, z, angle } => are_numbers(x, y, z) && is_number(angle),
             TransformOp::Skew { x, y } => is_number(x) && is_number(y),
         }
     }
@@ -120,4 +118,12 @@ fn is_number(number: i64) -> bool
     ensures within { IsTrue result ↔ IsNumber number }
 {
     number.unsigned_abs() <= LARGEST_NUMBER
+}
+
+// Whether these may be three numbers of an operation.
+fn are_numbers(x: i64, y: i64, z: i64) -> bool
+    ensures value { result ≡ is_number x && is_number y && is_number z }
+    ensures within { IsTrue result ↔ IsNumber x × IsNumber y × IsNumber z }
+{
+    is_number(x) && is_number(y) && is_number(z)
 }
