@@ -233,16 +233,19 @@ fn a_steady_sink_keeps_a_piece_that_fits_after_one_that_did_not(
 }
 
 #[test]
-fn the_adapters_move_the_bytes_of_their_reader_and_writer(rt: HostRuntime) -> Result<(), Fail> {
+fn an_adapter_moves_the_bytes_of_its_reader(rt: HostRuntime) {
     let mut source = StdSource::new(b"abcde".as_slice());
     let mut into = [0u8; 3];
     expect_read(&rt, &mut source, &mut into, Ok(3), b"abc");
     assert!(rt; source.into_inner() == b"de".as_slice());
+}
+
+#[test]
+fn an_adapter_moves_the_bytes_to_its_writer(rt: HostRuntime) {
     let mut sink = StdSink::new(Vec::new(rt.alloc()));
-    expect_write(&rt, &mut sink, into.as_slice(), Ok(3));
+    expect_write(&rt, &mut sink, b"abc", Ok(3));
     expect_write(&rt, &mut sink, b"d", Ok(1));
     assert!(rt; sink.into_inner().as_slice() == b"abcd".as_slice());
-    Ok(())
 }
 
 #[test]

@@ -1,4 +1,5 @@
-//! Tests of the crates on which the trees stand: timing, easing, blends, curves, models, and the small tables.
+//! Tests of the crates below the trees and beside them: timing, easing, blends, curves, models, the small tables, the
+//! lock between the lanes, the streams of bytes and the gates.
 //!
 //! A crate is proved once more for each crate that holds its tests, so these stand together and not each beside what it
 //! tries. The library itself is empty.

@@ -62,10 +62,10 @@ fn in_turn_with<R: Wait, F: VerdictFunction + Drop, E: EasingFunction + Drop>(
     let _well = script.main();
     let delegate = Delegate::new(verdict);
     let evaluator = Evaluator::new(ease);
-    let mut main = MainSide::new(alloc, MOST_EVENTS, &delegate)?;
-    let mut compositor = CompositorSide::new(alloc, MOST_MODELS, &evaluator)?;
+    let main = MainSide::new(alloc, MOST_EVENTS, &delegate)?;
+    let compositor = CompositorSide::new(alloc, MOST_MODELS, &evaluator)?;
     let board = board_for(alloc, script)?;
-    in_turn(rt, alloc, script, &mut main, &mut compositor, board)
+    in_turn(rt, alloc, script, main, compositor, board)
 }
 
 /// A board with room for an entry a step and for the most events.
@@ -74,10 +74,15 @@ fn board_for(alloc: Global, script: &Script) -> Result<Board, AllocError>
     ensures entry_room { IfOk result (λ board. length script.now.main + length script.now.compositor ≤ board.room) }
     ensures event_room { IfOk result (λ board. 2 * MOST_MODELS ≤ board.queue.room) }
 {
-    let steps = script.main().len() + script.compositor().len();
     let mut board = Board::new(alloc);
-    board.reserve(steps as u32, MOST_EVENTS)?;
+    board.reserve(step_count(script), MOST_EVENTS)?;
     Ok(board)
+}
+
+fn step_count(script: &Script) -> u32
+    ensures { result ≡ length script.now.main + length script.now.compositor }
+{
+    (script.main().len() + script.compositor().len()) as u32
 }
 
 /// Makes all of main's steps, and then all of the compositor's. Gives the board and how many entries it has.
@@ -85,15 +90,23 @@ fn in_turn<R: Wait, M: MainSteps, C: CompositorSteps>(
     rt: &R,
     alloc: Global,
     script: &Script,
-    main: &mut M,
-    compositor: &mut C,
+    mut main: M,
+    mut compositor: C,
     board: Board,
 ) -> Result<(usize, Board), AllocError>
-    requires { MayReplay script.now (M.state main.old) (C.state compositor.old) board }
+    requires { MayReplay script.now (M.state main) (C.state compositor) board }
 {
     let (lock, seat, other) = CommitLock::new(alloc, LaneBoard::new(script, board))?;
-    let (seat, counts) = main_lane(rt, alloc, &lock, seat, script, main, &IdleGate);
-    let (other, frames) = compositor_lane(rt, alloc, &lock, other, script, compositor, &IdleGate);
+    let (seat, counts) = main_lane(rt, alloc, &lock, seat, script, &mut main, &IdleGate);
+    let (other, frames) = compositor_lane(
+        rt,
+        alloc,
+        &lock,
+        other,
+        script,
+        &mut compositor,
+        &IdleGate,
+    );
     let closed = lock.close(seat, other);
     counts?;
     frames?;
