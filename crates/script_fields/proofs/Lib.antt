@@ -1,6 +1,7 @@
 pub mod Digits
 pub mod Spelled
 pub mod Kept
+pub mod Parts
 pub mod Items
 pub mod Ranges
 pub mod TextLemmas

@@ -1,6 +1,7 @@
 //! Easings as a script spells them.
 
-ghost use Rattle.std.specs.Prelude.{◌≡◌, map, IfOk, option_and_then};
+ghost use Rattle.std.specs.Prelude.{◌≡◌, map, option_and_then};
+ghost use Rattle.std.specs.Option.{option_or};
 ghost use Rattle.script_fields.specs.Easings as said;
 ghost use Rattle.script_fields.specs.Numbers.{natural_within};
 ghost use Rattle.script_fields.specs.Keywords.{position_said};
@@ -9,16 +10,26 @@ use crate::fields::{is, parts_of};
 use crate::keywords::position_said;
 use crate::numbers::{natural_within, number_said};
 use easing_fixed::{Easing, MOST_INTERVALS, StepPosition};
-use std::alloc::{AllocError, Global};
 
 /// The easing that a field spells: a keyword of CSS, `steps:COUNT:POSITION`, or `cubic:X1:Y1:X2:Y2` with control
 /// numbers in millionths.
-pub fn easing_said(alloc: Global, field: &[u8]) -> Result<Option<Easing>, AllocError>
-    ensures { IfOk result (λ easing. easing ≡ said.easing_said field.now) }
+#[tactic(auto, using(crate::proofs::Parts::no_easing))]
+pub fn easing_said(field: &[u8]) -> Option<Easing>
+    ensures { result ≡ said.easing_said field.now }
 {
-    let parts = parts_of(alloc, field)?;
-    let shape = steps_said(parts.as_slice()).or(cubic_said(parts.as_slice()));
-    Ok(keyword_said(field).or(shape))
+    if let Some(easing) = keyword_said(field) {
+        return Some(easing);
+    }
+    match parts_of(field) {
+        Some(parts) => easing_of_parts(parts.as_slice()),
+        None => None,
+    }
+}
+
+fn easing_of_parts(parts: &[&[u8]]) -> Option<Easing>
+    ensures { result ≡ option_or (said.steps_said (map (λ part. part.now) parts.now)) (said.cubic_said (map (λ part. part.now) parts.now)) }
+{
+    steps_said(parts).or(cubic_said(parts))
 }
 
 fn keyword_said(word: &[u8]) -> Option<Easing>

@@ -75,9 +75,9 @@ fn operations_read(
         ≡ all_read said.operation_read (map (λ field. field.now) fields.now)) }
     ensures taken { IfOk result (λ ops. IfOk ops (λ ops. list_refusal ops.items ≡ None)) }
 {
-    let mut ops = Vec::new(alloc);
+    let mut ops = Vec::with_capacity(alloc, fields.len())?;
     for field in fields {
-        match operation_read(alloc, field)? {
+        match operation_read(field) {
             Ok(op) => ops.push(op)?,
             Err(fault) => return Ok(Err(fault)),
         }
@@ -85,15 +85,14 @@ fn operations_read(
     Ok(Ok(ops))
 }
 
-#[tactic(auto, unfolding(crate::specs::Lists::operation_read))]
-fn operation_read(
-    alloc: Global,
-    field: &[u8],
-) -> Result<Result<TransformOp, FieldFault>, AllocError>
-    ensures { IfOk result (λ op. op ≡ said.operation_read field.now) }
+#[tactic(auto, using(crate::proofs::Parts::no_operation), unfolding(crate::specs::Lists::operation_read))]
+fn operation_read(field: &[u8]) -> Result<TransformOp, FieldFault>
+    ensures { result ≡ said.operation_read field.now }
 {
-    let parts = parts_of(alloc, field)?;
-    Ok(operation_with(parts.as_slice()))
+    match parts_of(field) {
+        Some(parts) => operation_with(parts.as_slice()),
+        None => Err(FieldFault::BadForm),
+    }
 }
 
 #[tactic(auto, unfolding(crate::specs::Lists::operation_with))]

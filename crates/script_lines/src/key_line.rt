@@ -39,7 +39,7 @@ fn key_of<V: KeyValue>(
     ensures time { IfOk result (λ key. key.time ≤ LONGEST_DURATION) }
 {
     let time = key_time_said(time).ok_or(Cause::BadNumber)?;
-    let easing = easing_said(alloc, easing)?.ok_or(Cause::BadEasing)?;
+    let easing = easing_said(easing).ok_or(Cause::BadEasing)?;
     match V::said(alloc, value) {
         Ok(value) => Ok(Key {
             time,

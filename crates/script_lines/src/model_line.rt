@@ -13,32 +13,31 @@ use micro_time::{Direction, Fill};
 use script_fields::keywords::{direction_said, fill_said, policy_said, property_said};
 use script_fields::values::{Count, TimingNumbers, count_said, id_said, start_said, timing_of};
 use script_fields::{easing_said, number_said};
-use std::alloc::Global;
 
 /// How many fields there are behind the line's name.
 const FIELDS: usize = 15;
 
 /// What the line of a model says, by the fields behind its name.
 #[tactic(auto, unfolding(frame_script::specs::Said::model_said))]
-pub fn model_said(alloc: Global, fields: &[&[u8]]) -> Result<ModelLine, LineFault>
+pub fn model_said(fields: &[&[u8]]) -> Result<ModelLine, LineFault>
     ensures value { Gives (λ line. line) result (said.model_said (map (λ field. field.now) fields.now)) }
     ensures start { IfOk result (λ line. IfSome line.names.start (λ time. time ≤ LAST_TIME)) }
 {
     if fields.len() == FIELDS {
-        after_model(alloc, fields)
+        after_model(fields)
     } else {
         Err(LineFault::Refused(Cause::BadLine))
     }
 }
 
-fn after_model(alloc: Global, fields: &[&[u8]]) -> Result<ModelLine, LineFault>
+fn after_model(fields: &[&[u8]]) -> Result<ModelLine, LineFault>
     ensures value { Gives (λ line. line) result (said.after_model (map (λ field. field.now) fields.now)) }
     ensures start { IfOk result (λ line. IfSome line.names.start (λ time. time ≤ LAST_TIME)) }
 {
     match fields {
         [id, group, element, timeline, property, start, more @ ..] => {
             let names = names_said(id, group, element, timeline, property, start)?;
-            after_names(alloc, &names, more)
+            after_names(&names, more)
         }
         _ => Err(LineFault::Refused(Cause::BadLine)),
     }
@@ -85,7 +84,7 @@ fn ids_said(
     Ok((id, (group, (element, timeline))))
 }
 
-fn after_names(alloc: Global, names: &ModelNames, fields: &[&[u8]]) -> Result<ModelLine, LineFault>
+fn after_names(names: &ModelNames, fields: &[&[u8]]) -> Result<ModelLine, LineFault>
     requires { IfSome names.now.start (λ time. time ≤ LAST_TIME) }
     ensures value { Gives (λ line. line) result (said.after_names names.now (map (λ field. field.now) fields.now)) }
     ensures start { IfOk result (λ line. IfSome line.names.start (λ time. time ≤ LAST_TIME)) }
@@ -93,7 +92,7 @@ fn after_names(alloc: Global, names: &ModelNames, fields: &[&[u8]]) -> Result<Mo
     match fields {
         [offset, iterations, start, direction, fill, rate, more @ ..] => {
             let numbers = numbers_said(offset, iterations, start, direction, fill, rate)?;
-            after_numbers(alloc, names, numbers, more)
+            after_numbers(names, numbers, more)
         }
         _ => Err(LineFault::Refused(Cause::BadLine)),
     }
@@ -151,7 +150,6 @@ fn course_said(
 }
 
 fn after_numbers(
-    alloc: Global,
     names: &ModelNames,
     numbers: TimingNumbers,
     fields: &[&[u8]],
@@ -161,14 +159,13 @@ fn after_numbers(
     ensures start { IfOk result (λ line. IfSome line.names.start (λ time. time ≤ LAST_TIME)) }
 {
     match fields {
-        [policy, easing, keys] => curve_line_said(alloc, names, numbers, policy, easing, keys),
+        [policy, easing, keys] => curve_line_said(names, numbers, policy, easing, keys),
         _ => Err(LineFault::Refused(Cause::BadLine)),
     }
 }
 
 #[tactic(auto, unfolding(frame_script::specs::Said::curve_line_said))]
 fn curve_line_said(
-    alloc: Global,
     names: &ModelNames,
     numbers: TimingNumbers,
     policy: &[u8],
@@ -180,7 +177,7 @@ fn curve_line_said(
     ensures start { IfOk result (λ line. IfSome line.names.start (λ time. time ≤ LAST_TIME)) }
 {
     let policy = policy_said(policy).ok_or(Cause::BadLine)?;
-    let easing = easing_said(alloc, easing)?.ok_or(Cause::BadEasing)?;
+    let easing = easing_said(easing).ok_or(Cause::BadEasing)?;
     let keys = key_count_said(keys)?;
     let timing = timing_of(numbers).ok_or(Cause::BadTiming)?;
     Ok(ModelLine {

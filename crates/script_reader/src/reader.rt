@@ -170,7 +170,7 @@ impl Reader {
         ensures { Gives (λ _. state_of self.new) result
             (read_then (model_said (map (λ field. field.now) fields.now)) (state.model_begun (state_of self.old).script)) }
     {
-        let line = match model_said(alloc, fields) {
+        let line = match model_said(fields) {
             Ok(line) => line,
             Err(fault) => return Err(fault),
         };

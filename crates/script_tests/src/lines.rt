@@ -43,7 +43,7 @@ fn the_word_is_read(rt: HostRuntime) -> Result<(), Fail> {
 fn a_model_is_read(rt: HostRuntime) -> Result<(), Fail> {
     let text = b"7 1 1 1 opacity - 0 1000 0 normal none 1000 auto linear 2";
     let fields = fields_of(rt.alloc(), text)?;
-    let Ok(line) = model_said(rt.alloc(), &fields) else {
+    let Ok(line) = model_said(&fields) else {
         return Err(Fail::from("no model"));
     };
     assert!(rt; line.names.id == ModelId(7));
