@@ -86,10 +86,17 @@ impl Script {
         ensures other { result ≡ Ok false → self.new ≡ self.old }
         ensures err { OnErr result (self.new ≡ self.old) }
     {
-        if !is_word_of(self.main.len(), self.compositor.len(), word) {
+        if !self.fits(word) {
             return Ok(false);
         }
         self.word = Vec::from_slice(*self.word.allocator(), word)?;
         Ok(true)
+    }
+
+    // Whether a word has a letter for each step of each lane.
+    fn fits(&self, word: &[Lane]) -> bool
+        ensures { IsTrue result ↔ IsWordOf (length self.now.main) (length self.now.compositor) word.now }
+    {
+        is_word_of(self.main.len(), self.compositor.len(), word)
     }
 }
