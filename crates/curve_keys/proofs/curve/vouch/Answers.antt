@@ -1,4 +1,4 @@
-use Rattle.std.proofs.Common.{arith, rules}
+use Rattle.std.proofs.Common.{rules}
 use Rattle.curve_keys.specs.Curves.{IsKey}
 use Rattle.curve_keys.proofs.Keys.{each-more}
 use Rattle.curve_keys.proofs.curve.vouch.Goals as goal

@@ -1,5 +1,4 @@
 use Rattle.std.proofs.Common.{ℕ, ◌<◌, get_or}
-use Rattle.curve_keys.specs.declared.key.Key.{Key}
 use Rattle.curve_keys.specs.Curves.{IsKey}
 use Rattle.curve_keys.proofs.curve.vouch.Given as goal
 
