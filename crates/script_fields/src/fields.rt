@@ -1,4 +1,4 @@
-ghost use Rattle.std.specs.Prelude.{◌≡◌, ◌<◌, length, map, IfOk, MatchOption};
+ghost use Rattle.std.specs.Prelude.{◌≡◌, ◌<◌, length, map, IfOk, OnOk, MatchOption};
 ghost use Rattle.std.specs.Str.{bytes_eq};
 ghost use Rattle.script_fields.specs.Fields.{fields, parts};
 
@@ -12,7 +12,17 @@ pub(crate) const MOST_PARTS: usize = 5;
 pub fn fields_of(alloc: Global, line: &[u8]) -> Result<Vec<&[u8]>, AllocError>
     ensures { IfOk result (λ found. map (λ field. field.now) found.items ≡ fields line.now) }
 {
-    line.split(|b| *b == b' ').collect(alloc)
+    let mut found = Vec::new(alloc);
+    fields_into(&mut found, line)?;
+    Ok(found)
+}
+
+/// Puts the fields of a line, in order, in place of those of another line: their room is used again.
+pub fn fields_into<'t>(found: &mut Vec<&'t [u8]>, line: &'t [u8]) -> Result<(), AllocError>
+    ensures { OnOk result (map (λ field. field.now) found.new.items ≡ fields line.now) }
+{
+    found.clear();
+    found.extend(line.split(|b| *b == b' '))
 }
 
 // The parts of a field, in order, where there are no more of them than a field may have.

@@ -15,7 +15,7 @@ use crate::lines::is_skipped;
 use crate::main_part::MainPart;
 use anim_names::Lane;
 use frame_script::{Cause, Script, ScriptFault, is_word_of};
-use script_fields::{fields_of, is};
+use script_fields::{fields_into, is};
 use script_lines::{LineFault, compositor_said, model_said, step_said, word_said};
 use std::alloc::{AllocError, Global};
 use std::sync::Arc;
@@ -68,19 +68,29 @@ impl Reader {
         })
     }
 
-    /// Takes a line that is not skipped.
+    /// Takes a line that is not skipped. `room` is for its fields.
     #[tactic(auto, unfolding(frame_script::specs::States::at_stage))]
-    pub(crate) fn take_line(&mut self, alloc: Global, line: &[u8]) -> Result<(), LineFault>
+    pub(crate) fn take_line<'t>(
+        &mut self,
+        alloc: Global,
+        room: &mut Vec<&'t [u8]>,
+        line: &'t [u8],
+    ) -> Result<(), LineFault>
         ensures { Gives (λ _. state_of self.new) result (state.at_stage (state_of self.old).stage (state_of self.old).script line.now) }
     {
         match self.draft.take() {
-            Some(draft) => self.take_key(alloc, draft, line),
-            None => self.take_at_place(alloc, line),
+            Some(draft) => self.take_key(alloc, room, draft, line),
+            None => self.take_at_place(alloc, room, line),
         }
     }
 
     #[tactic(auto, unfolding(frame_script::specs::States::at_stage))]
-    fn take_at_place(&mut self, alloc: Global, line: &[u8]) -> Result<(), LineFault>
+    fn take_at_place<'t>(
+        &mut self,
+        alloc: Global,
+        room: &mut Vec<&'t [u8]>,
+        line: &'t [u8],
+    ) -> Result<(), LineFault>
         requires { self.old.draft ≡ None }
         ensures { Gives (λ _. state_of self.new) result (state.at_stage (stage_of self.old.stage) (state_of self.old).script line.now) }
     {
@@ -97,8 +107,8 @@ impl Reader {
                 ReaderStage::MainLines,
                 line,
             ),
-            ReaderStage::MainLines => self.take_main(alloc, line),
-            ReaderStage::CompositorLines => self.take_compositor(alloc, line),
+            ReaderStage::MainLines => self.take_main(alloc, room, line),
+            ReaderStage::CompositorLines => self.take_compositor(alloc, room, line),
             ReaderStage::End => self.take_only("end", Cause::BadLine, ReaderStage::Nothing, line),
             ReaderStage::Nothing => Err(LineFault::Refused(Cause::BadLine)),
         }
@@ -123,7 +133,12 @@ impl Reader {
     }
 
     #[tactic(auto, unfolding(frame_script::specs::States::at_stage))]
-    fn take_main(&mut self, alloc: Global, line: &[u8]) -> Result<(), LineFault>
+    fn take_main<'t>(
+        &mut self,
+        alloc: Global,
+        room: &mut Vec<&'t [u8]>,
+        line: &'t [u8],
+    ) -> Result<(), LineFault>
         requires draft { self.old.draft ≡ None }
         requires stage { self.old.stage ≡ ReaderStage.MainLines }
         ensures { Gives (λ _. state_of self.new) result (state.at_stage state.InMain (state_of self.old).script line.now) }
@@ -132,8 +147,8 @@ impl Reader {
             self.stage = ReaderStage::CompositorLines;
             return Ok(());
         }
-        let fields = fields_of(alloc, line)?;
-        self.take_main_fields(alloc, fields.as_slice())
+        fields_into(room, line)?;
+        self.take_main_fields(alloc, room.as_slice())
     }
 
     #[tactic(auto, unfolding(frame_script::specs::States::in_main))]
@@ -180,14 +195,20 @@ impl Reader {
     }
 
     #[tactic(auto, unfolding(frame_script::specs::States::key_made))]
-    fn take_key(&mut self, alloc: Global, draft: Draft, line: &[u8]) -> Result<(), LineFault>
+    fn take_key<'t>(
+        &mut self,
+        alloc: Global,
+        room: &mut Vec<&'t [u8]>,
+        draft: Draft,
+        line: &'t [u8],
+    ) -> Result<(), LineFault>
         requires { self.old.draft ≡ None }
         ensures { Gives (λ _. state_of self.new) result
             (state.key_made (state_of self.old).script draft.line (keys_of draft.keys) (fields line.now)) }
     {
         let mut draft = draft;
-        let fields = fields_of(alloc, line)?;
-        draft.push_said(alloc, fields.as_slice())?;
+        fields_into(room, line)?;
+        draft.push_said(alloc, room.as_slice())?;
         if draft.is_full() {
             self.end_model(alloc, draft)
         } else {
@@ -212,14 +233,19 @@ impl Reader {
         self.main.push(MainStep::Edit(Edit::AddModel { spec }))
     }
 
-    fn take_compositor(&mut self, alloc: Global, line: &[u8]) -> Result<(), LineFault>
+    fn take_compositor<'t>(
+        &mut self,
+        alloc: Global,
+        room: &mut Vec<&'t [u8]>,
+        line: &'t [u8],
+    ) -> Result<(), LineFault>
         requires draft { self.old.draft ≡ None }
         requires stage { self.old.stage ≡ ReaderStage.CompositorLines }
         ensures { Gives (λ _. state_of self.new) result
             (state.in_compositor (state_of self.old).script (fields line.now)) }
     {
-        let fields = fields_of(alloc, line)?;
-        self.take_compositor_fields(alloc, fields.as_slice())
+        fields_into(room, line)?;
+        self.take_compositor_fields(alloc, room.as_slice())
     }
 
     #[tactic(auto, unfolding(frame_script::specs::States::in_compositor))]
@@ -262,20 +288,22 @@ impl Reader {
         Ok(())
     }
 
-    /// Takes the line of a number. A line that is skipped changes nothing.
+    /// Takes the line of a number. A line that is skipped changes nothing. `room` is for the fields of the line, and is
+    /// used again for the next one.
     #[tactic(auto, unfolding(frame_script::specs::States::after_line))]
-    pub(crate) fn read_line(
+    pub(crate) fn read_line<'t>(
         &mut self,
         alloc: Global,
+        room: &mut Vec<&'t [u8]>,
         number: u32,
-        line: &[u8],
+        line: &'t [u8],
     ) -> Result<(), ScriptFault>
         ensures { GivesScript (λ _. state_of self.new) result (numbered number (state.after_line (state_of self.old) line.now)) }
     {
         if is_skipped(line) {
             return Ok(());
         }
-        match self.take_line(alloc, line) {
+        match self.take_line(alloc, room, line) {
             Ok(()) => Ok(()),
             Err(LineFault::Refused(cause)) => Err(ScriptFault::Refused {
                 line: number,

@@ -47,10 +47,11 @@ fn read_lines(reader: &mut Reader, alloc: Global, text: &[u8]) -> Result<u32, Sc
         ≡ end_at number (state_of reader.new).stage (state_of reader.new).script) }
     ensures err { IfErr result (FailsAs (reading_from 1 (state_of reader.old) (lines text.now))) }
 {
+    let mut room = Vec::new(alloc);
     let mut number = 1;
     let mut rest = text;
     while let Some((line, after)) = split_line(rest) {
-        match reader.read_line(alloc, number, line) {
+        match reader.read_line(alloc, &mut room, number, line) {
             Ok(()) => {}
             Err(fault) => return Err(fault),
         }
