@@ -1,7 +1,8 @@
 //! What the program answers: reports, refusals, and what it makes from a number.
 
 use crate::calls::{
-    Answer, call, call_plainly, expect_done, expect_number, expect_steady, replayed, written,
+    Answer, call, call_plainly, expect_done, expect_number, expect_steady, replayed, steady_source,
+    written,
 };
 use crate::texts::{
     DROPPED, DROPPED_REPORT, EMPTY, EMPTY_REPORT, OF_ONE, REPORT, SCRIPT, with_line,
@@ -18,7 +19,7 @@ use tree_commit::EditRefusal;
 
 #[test]
 fn scripts_are_replayed(rt: HostRuntime) -> Result<(), Fail> {
-    for (script, report) in [
+    for (script, report) in &[
         (SCRIPT, REPORT),
         (EMPTY, EMPTY_REPORT),
         (DROPPED, DROPPED_REPORT),
@@ -30,7 +31,7 @@ fn scripts_are_replayed(rt: HostRuntime) -> Result<(), Fail> {
 
 #[test]
 fn the_first_bad_line_is_refused(rt: HostRuntime) -> Result<(), Fail> {
-    for (line, new, cause, name) in [
+    for (line, new, cause, name) in &[
         (1, "anim 3", Cause::BadHeader, "BadHeader"),
         (4, "element 1 1000001 none", Cause::BadNumber, "BadNumber"),
         (
@@ -50,12 +51,24 @@ fn the_first_bad_line_is_refused(rt: HostRuntime) -> Result<(), Fail> {
         (13, "tick 15999", Cause::TimeBack, "TimeBack"),
         (15, "word MMMMCCCC", Cause::BadWord, "BadWord"),
     ] {
-        let script = with_line(rt.alloc(), SCRIPT, line as usize, Some(new))?;
-        let answer = replayed(&rt, rt.alloc(), script.as_bytes())?;
-        assert!(rt; answer.status == Status::Refused { line, cause });
-        expect_refusal(&rt, rt.alloc(), &answer, line, name)?;
+        expect_refused(&rt, rt.alloc(), *line, new, *cause, name)?;
     }
     Ok(())
+}
+
+/// Whether the script with this line changed is refused there, for this cause.
+fn expect_refused<R: Threads + Wait + Sync + Abort>(
+    rt: &R,
+    alloc: Global,
+    line: u32,
+    new: &str,
+    cause: Cause,
+    name: &str,
+) -> Result<(), AllocError> {
+    let script = with_line(alloc, SCRIPT, line as usize, Some(new))?;
+    let answer = replayed(rt, alloc, script.as_bytes())?;
+    assert!(rt; answer.status == Status::Refused { line, cause });
+    expect_refusal(rt, alloc, &answer, line, name)
 }
 
 fn expect_refusal(
@@ -80,7 +93,7 @@ fn a_script_that_is_too_long_is_refused_with_a_byte_left(rt: HostRuntime) -> Res
 
 #[test]
 fn made_scripts_are_written_and_loaded(rt: HostRuntime) -> Result<(), Fail> {
-    for (words, text) in [
+    for (words, text) in &[
         (
             "load 1",
             "load 1: frames 4 rows 3 started 2 finished 0 aborted 0 heard 2 bytes 309\n",
@@ -121,9 +134,9 @@ fn expect_replayed_plainly(
 
 #[test]
 fn arguments_that_are_no_command_touch_nothing(rt: HostRuntime) -> Result<(), Fail> {
-    let mut source = SteadySource::new(SCRIPT.as_bytes().to_vec(rt.alloc())?);
+    let mut source = steady_source(rt.alloc(), SCRIPT)?;
     let mut sink = SteadySink::new(rt.alloc(), 201)?;
-    for words in [
+    for words in &[
         "", "replay x", "gen", "gen 0", "gen 201", "gen 01", "gen +1", "load 1 2", "Run", "run x",
     ] {
         expect_usage(&rt, rt.alloc(), words, &mut source, &mut sink)?;

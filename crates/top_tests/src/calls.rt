@@ -173,6 +173,11 @@ fn steadily<R: Threads + Wait + Sync>(
     call(rt, alloc, words, source, sink, &IdleGate)
 }
 
+/// A source that gives this text, and never fails.
+pub fn steady_source(alloc: Global, text: &str) -> Result<SteadySource, AllocError> {
+    Ok(SteadySource::new(text.as_bytes().to_vec(alloc)?))
+}
+
 /// Whether the program is done over a source and a sink that never fail, and the sink has just this text.
 pub fn expect_steady<R: Threads + Wait + Sync + Abort>(
     rt: &R,

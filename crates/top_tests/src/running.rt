@@ -3,10 +3,11 @@
 
 use crate::calls::{
     Answer, answered, expect_done, expect_front, expect_number, expect_steady, replayed,
+    steady_source,
 };
 use crate::texts::{EMPTY, EMPTY_REPORT, SCRIPT, with_line};
 use anim_top::Status;
-use edge_io::{HoldGate, IdleGate, MeetGate, SteadySink, SteadySource};
+use edge_io::{HoldGate, IdleGate, MeetGate, SteadySink};
 use std::alloc::{AllocError, Global};
 use std::process::Abort;
 use std::str::from_utf8;
@@ -70,13 +71,13 @@ end
 
 #[test]
 fn scripts_with_one_order_fill_a_steady_sink(rt: HostRuntime) -> Result<(), Fail> {
-    for (words, script, report, length) in [
+    for (words, script, report, length) in &[
         ("replay", EMPTY, EMPTY_REPORT, 28),
         ("run", EMPTY, EMPTY_REPORT, 28),
         ("run", THREE_TICKS, THREE_TICKS_REPORT, 96),
     ] {
-        let mut source = SteadySource::new(script.as_bytes().to_vec(rt.alloc())?);
-        let mut sink = SteadySink::new(rt.alloc(), length)?;
+        let mut source = steady_source(rt.alloc(), script)?;
+        let mut sink = SteadySink::new(rt.alloc(), *length)?;
         expect_steady(&rt, rt.alloc(), words, &mut source, &mut sink, report)?;
     }
     Ok(())
@@ -84,29 +85,47 @@ fn scripts_with_one_order_fill_a_steady_sink(rt: HostRuntime) -> Result<(), Fail
 
 #[test]
 fn the_report_has_the_order_that_the_lanes_took(rt: HostRuntime) -> Result<(), Fail> {
+    expect_order(&rt, rt.alloc(), 2, BETWEEN)?;
+    expect_order(&rt, rt.alloc(), 0, BEFORE)?;
+    Ok(())
+}
+
+/// Whether the lanes met where the compositor begins once main has come to this step, and this is the report.
+fn expect_order<R: Threads + Wait + Sync + Abort>(
+    rt: &R,
+    alloc: Global,
+    first: u32,
+    report: &str,
+) -> Result<(), AllocError> {
+    let gate = HoldGate::new(first);
     let script = TWO_COMMITS.as_bytes();
-    for (first, report) in [(2, BETWEEN), (0, BEFORE)] {
-        let gate = HoldGate::new(first);
-        let answer = answered(&rt, rt.alloc(), "run", script, (&[], &[]), &gate)?;
-        assert!(rt; gate.met());
-        assert!(rt; !gate.gave_up());
-        expect_done(&rt, &answer, report);
-    }
+    let answer = answered(rt, alloc, "run", script, (&[], &[]), &gate)?;
+    assert!(rt; gate.met());
+    assert!(rt; !gate.gave_up());
+    expect_done(rt, &answer, report);
     Ok(())
 }
 
 #[test]
 fn the_printed_word_replays_the_run(rt: HostRuntime) -> Result<(), Fail> {
     let long = twenty_elements(rt.alloc())?;
-    for script in [TWO_COMMITS, long.as_str()] {
-        let gate = MeetGate::new();
-        let bytes = script.as_bytes();
-        let answer = answered(&rt, rt.alloc(), "run", bytes, (&[], &[]), &gate)?;
-        assert!(rt; gate.met());
-        assert!(rt; !gate.gave_up());
-        expect_same_replayed(&rt, rt.alloc(), script, &answer)?;
-    }
+    expect_word_replays(&rt, rt.alloc(), TWO_COMMITS)?;
+    expect_word_replays(&rt, rt.alloc(), long.as_str())?;
     Ok(())
+}
+
+/// Whether the lanes met, and the script replays in the order that the run printed.
+fn expect_word_replays<R: Threads + Wait + Sync + Abort>(
+    rt: &R,
+    alloc: Global,
+    script: &str,
+) -> Result<(), AllocError> {
+    let gate = MeetGate::new();
+    let bytes = script.as_bytes();
+    let answer = answered(rt, alloc, "run", bytes, (&[], &[]), &gate)?;
+    assert!(rt; gate.met());
+    assert!(rt; !gate.gave_up());
+    expect_same_replayed(rt, alloc, script, &answer)
 }
 
 /// Whether a run was done, and the replay of its script in the order that it printed writes the same.
@@ -119,9 +138,13 @@ fn expect_same_replayed<R: Threads + Wait + Sync + Abort>(
     assert!(rt; answer.status == Status::Done);
     let ordered = with_printed_word(alloc, script, answer.text.as_slice())?;
     let again = replayed(rt, alloc, ordered.as_bytes())?;
+    expect_same(rt, &again, answer);
+    Ok(())
+}
+
+fn expect_same(rt: &impl Abort, again: &Answer, answer: &Answer) {
     assert!(rt; again.status == Status::Done);
     assert!(rt; again.text.as_slice() == answer.text.as_slice());
-    Ok(())
 }
 
 /// The script with the word of this report, which is its second line.
@@ -191,18 +214,27 @@ fn push_ticks(text: &mut String, first: u32, end: u32) -> Result<(), AllocError>
 
 #[test]
 fn a_script_that_is_refused_is_not_run(rt: HostRuntime) -> Result<(), Fail> {
-    for (line, new, refusal) in [
+    for (line, new, refusal) in &[
         (1, "anim 3", "refused: line 1: BadHeader\n"),
         (8, "drop-model 9", "refused: line 8: ModelUnknown\n"),
         (15, "word MMMMCCCC", "refused: line 15: BadWord\n"),
     ] {
-        let script = with_line(rt.alloc(), SCRIPT, line, Some(new))?;
-        for words in ["run", "replay"] {
-            let bytes = script.as_bytes();
-            let answer = answered(&rt, rt.alloc(), words, bytes, (&[], &[]), &IdleGate)?;
-            expect_number(&rt, &answer, 3, refusal);
-        }
+        let script = with_line(rt.alloc(), SCRIPT, *line, Some(*new))?;
+        expect_refused_by(&rt, rt.alloc(), "run", script.as_bytes(), refusal)?;
+        expect_refused_by(&rt, rt.alloc(), "replay", script.as_bytes(), refusal)?;
     }
+    Ok(())
+}
+
+fn expect_refused_by<R: Threads + Wait + Sync + Abort>(
+    rt: &R,
+    alloc: Global,
+    words: &str,
+    script: &[u8],
+    refusal: &str,
+) -> Result<(), AllocError> {
+    let answer = answered(rt, alloc, words, script, (&[], &[]), &IdleGate)?;
+    expect_number(rt, &answer, 3, refusal);
     Ok(())
 }
 
@@ -210,18 +242,18 @@ fn a_script_that_is_refused_is_not_run(rt: HostRuntime) -> Result<(), Fail> {
 // 96.
 #[test]
 fn a_run_ends_at_a_fault_of_the_outside(rt: HostRuntime) -> Result<(), Fail> {
-    for (source, sink, number, taken) in [
+    for (source, sink, number, taken) in &[
         (0, 9, 4, 0),
         (1, 9, 4, 0),
         (9, 0, 5, 0),
         (9, 1, 5, 64),
         (9, 9, 0, 96),
     ] {
-        let (failing_source, failing_sink) = ([source], [sink]);
+        let (failing_source, failing_sink) = ([*source], [*sink]);
         let failing = (failing_source.as_slice(), failing_sink.as_slice());
         let bytes = THREE_TICKS.as_bytes();
         let answer = answered(&rt, rt.alloc(), "run", bytes, failing, &IdleGate)?;
-        expect_front(&rt, &answer, number, taken, THREE_TICKS_REPORT);
+        expect_front(&rt, &answer, *number, *taken, THREE_TICKS_REPORT);
     }
     Ok(())
 }
