@@ -1,5 +1,5 @@
 -- How many letters the word of a journal has of each lane.
-use Rattle.std.proofs.Common.{◌≡◌, ℕ, ◌+◌, ◌-◌, ◌*◌, ◌≤◌, cond, List, [], ◌∷◌, fold, replicate, ap, ◌∙◌, arith}
+use Rattle.std.proofs.Common.{◌≡◌, ℕ, ◌+◌, ◌-◌, ◌*◌, ◌≤◌, max, false, cond, List, [], ◌∷◌, fold, replicate, ap, ◌∙◌, arith}
 use Rattle.std.proofs.lemmas.List.Folds.{sum_by-replicate}
 use Rattle.std.proofs.lemmas.List.Sums.{sum_by-append}
 use Rattle.anim_names.specs.declared.entry.Entry.{Entry}
@@ -14,6 +14,20 @@ letters-filled : (lane other : Lane) (upto : ℕ) (word : List Lane) → letters
 letters-filled lane other upto word =
     sum_by-append (λ x. cond (is_lane lane x) 1 0) word (replicate (upto - letters_of other word) other)
     ∙ ap (λ n. letters_of lane word + n) (sum_by-replicate (λ x. cond (is_lane lane x) 1 0) (upto - letters_of other word) other)
+
+pub letters-of_own : (lane : Lane) (upto made : ℕ) (word : List Lane) → made ≡ letters_of lane word → max made upto ≡ letters_of lane (filled lane upto word)
+letters-of_own Main upto made word h =
+    let own : letters_of Main (filled Main upto word) ≡ letters_of Main word + (upto - letters_of Main word) * 1 = letters-filled Main Main upto word in
+    omega (arith, own, h)
+letters-of_own Compositor upto made word h =
+    let own : letters_of Compositor (filled Compositor upto word) ≡ letters_of Compositor word + (upto - letters_of Compositor word) * 1 = letters-filled Compositor Compositor upto word in
+    omega (arith, own, h)
+
+pub letters-of_other : (lane other : Lane) (upto made : ℕ) (word : List Lane) → is_lane lane other ≡ false → made ≡ letters_of lane word → made ≡ letters_of lane (filled other upto word)
+letters-of_other lane other upto made word differ h =
+    let count : letters_of lane (filled other upto word) ≡ letters_of lane word + (upto - letters_of other word) * cond (is_lane lane other) 1 0 = letters-filled lane other upto word in
+    let none : letters_of lane (filled other upto word) ≡ letters_of lane word + (upto - letters_of other word) * 0 = rw differ at count in
+    omega (arith, none, h)
 
 -- no lane has more letters than steps
 record IsWithin (main compositor : ℕ) (word : List Lane) : Type 0 where

@@ -278,17 +278,25 @@ impl Board {
     }
 
     /// The word of the journal, for lanes with these numbers of steps.
-    #[tactic(auto, unfolding(crate::specs::Journals::word_of_journal))]
     pub fn word(&self, alloc: Global, main: u32, compositor: u32) -> Result<Vec<Lane>, AllocError>
         ensures { IfOk result (λ word. word.items ≡ word_of_journal self.now.entries main compositor) }
     {
         let mut word = Word::new(alloc);
+        self.spell(&mut word, main, compositor)?;
+        Ok(word.into_letters())
+    }
+
+    // Puts the letters of the journal's word into a word that has none.
+    #[tactic(auto, unfolding(crate::specs::Journals::word_of_journal))]
+    fn spell(&self, word: &mut Word, main: u32, compositor: u32) -> Result<(), AllocError>
+        requires { word.old ≡ [] }
+        ensures { OnOk result (word.new ≡ word_of_journal self.now.entries main compositor) }
+    {
         for entry in &self.entries {
             word.fill(entry.lane, entry.upto)?;
         }
         word.fill(Lane::Main, main)?;
-        word.fill(Lane::Compositor, compositor)?;
-        Ok(word.into_letters())
+        word.fill(Lane::Compositor, compositor)
     }
 }
 

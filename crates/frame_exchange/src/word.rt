@@ -1,4 +1,5 @@
 ghost use Rattle.std.specs.Prelude.{◌≡◌, [], OnOk};
+ghost use Rattle.anim_names.specs.Lanes.{letters_of};
 ghost use Rattle.frame_exchange.specs.Journals.{filled};
 
 use anim_names::Lane;
@@ -45,10 +46,7 @@ impl Word {
     pub(crate) fn fill(&mut self, lane: Lane, upto: u32) -> Result<(), AllocError>
         ensures { OnOk result (self.new ≡ filled lane upto self.old) }
     {
-        let made = match lane {
-            Lane::Main => self.main,
-            Lane::Compositor => self.compositor,
-        };
+        let made = self.made(lane);
         let more = upto.saturating_sub(made) as usize;
         self.letters.resize(self.letters.len() + more, lane)?;
         match lane {
@@ -56,6 +54,16 @@ impl Word {
             Lane::Compositor => self.compositor = made.max(upto),
         }
         Ok(())
+    }
+
+    // How many letters of the lane there are.
+    fn made(&self, lane: Lane) -> u32
+        ensures { result ≡ letters_of lane self.now }
+    {
+        match lane {
+            Lane::Main => self.main,
+            Lane::Compositor => self.compositor,
+        }
     }
 
     pub(crate) fn into_letters(self) -> Vec<Lane>
