@@ -44,7 +44,7 @@ fn others_run(standing: &Standing, model: &ModelSpec) -> bool
     }
 }
 
-// Whether of so many models that run, another one does than this, which runs or not.
+// Whether another model than this one runs. `count` models run, this one among them where `runs`.
 fn more_run(count: usize, runs: bool) -> bool
     ensures { result ≡ nat_lt (one_if runs) count }
 {

@@ -35,7 +35,7 @@ pub fn expect_number(rt: &impl Abort, answer: &Answer, number: u8, text: &str) {
     assert!(rt; answer.text.as_slice() == text.as_bytes());
 }
 
-/// Whether the program ended with this number, and wrote so many bytes of this text, from its beginning.
+/// Whether the program ended with this number, and wrote the first bytes of this text, of this length.
 pub fn expect_front(rt: &impl Abort, answer: &Answer, number: u8, length: usize, text: &str) {
     assert!(rt; answer.status.number() == number);
     assert!(rt; answer.text.len() == length);
