@@ -69,7 +69,10 @@ fn a_bad_count_of_steps_is_refused(rt: HostRuntime) {
         (1_000_001, StepPosition::JumpStart),
     ];
     for (count, position) in rows {
-        assert!(rt; Easing::steps(count, position) == Err(EasingFault::BadCount), "for {count}");
+        assert!(rt;
+            Easing::steps(count, position) == Err(EasingFault::BadCount),
+            "for {count}"
+        );
     }
 }
 
@@ -105,7 +108,10 @@ fn control_numbers_out_of_range_are_refused(rt: HostRuntime) {
         (0, 10_000_001, 0, 0, EasingFault::YOutOfRange),
     ];
     for (x1, y1, x2, y2, fault) in rows {
-        assert!(rt; Easing::cubic(x1, y1, x2, y2) == Err(fault), "for {x1} {y1} {x2} {y2}");
+        assert!(rt;
+            Easing::cubic(x1, y1, x2, y2) == Err(fault),
+            "for {x1} {y1} {x2} {y2}"
+        );
     }
 }
 

@@ -189,7 +189,10 @@ fn the_first_field_out_of_range_is_refused(rt: HostRuntime) {
             Fill::Both,
             rate,
         );
-        assert!(rt; made == Err(TimingFault::OutOfRange(field)), "for {field:?}");
+        assert!(rt;
+            made == Err(TimingFault::OutOfRange(field)),
+            "for {field:?}"
+        );
     }
     let reverse = second(
         Iterations::Infinite,
