@@ -1,8 +1,9 @@
 -- What an answer that was written whole means for the bytes that were read.
-use Rattle.std.proofs.Common.{◌≡◌, ℕ, ◌<◌, List, length, length-append, Option, Some, None, Result, Ok, Err, refl, ap, sym, subst, ◌∙◌, inl, inr, arith}
-use Rattle.std.specs.Prelude.{IfOk, IfSome, IsSomeAnd}
-use Rattle.std.proofs.lemmas.Bool.{cases_lt}
-use Rattle.edge_io.specs.Edges.{Took}
+use Rattle.std.proofs.Common.{◌≡◌, ◌≢◌, ℕ, ◌<◌, ◌≤◌, Bool, true, false, List, length, length-append, Option, Some, None, Result, Ok, Err, refl, ap, sym, subst, ◌∙◌, inl, inr, arith}
+use Rattle.std.specs.Prelude.{IfOk, IfSome}
+use Rattle.std.specs.Option.{option_eq}
+use Rattle.std.proofs.lemmas.Bool.{cases_lt, false≢true}
+use Rattle.edge_io.specs.Edges.{HasRisen, Took}
 use Rattle.frame_script.specs.declared.TheConstants.{MOST_BYTES}
 use Rattle.frame_script.specs.declared.cause.Cause.{Cause}
 use Rattle.frame_script.specs.declared.cause.Cause.TheVariants.{TooLong}
@@ -14,8 +15,8 @@ use Rattle.anim_top.specs.declared.arguments.Command.{Command}
 use Rattle.anim_top.specs.declared.arguments.Command.TheVariants.{Run, Replay, Gen, Load}
 use Rattle.anim_top.specs.Commands.{plain}
 use Rattle.anim_top.specs.declared.status.Status.{Status}
-use Rattle.anim_top.specs.declared.status.Status.TheVariants.{Done, Refused}
-use Rattle.anim_top.specs.Outside.{AnswersBytes, IsAnswerTo, IsRefused, IsReported, Reads, ReadsScript, RefusesAs, WordsOf}
+use Rattle.anim_top.specs.declared.status.Status.TheVariants.{Done, Usage, Refused, ReadFault, WriteFault, NoMemory}
+use Rattle.anim_top.specs.Outside.{AnswersBytes, HasGiven, IsAnswerTo, IsRefused, IsReported, IsWritten, Reads, RefusesAs, Serves, WordsOf}
 
 -- ---- what was written
 
@@ -96,13 +97,78 @@ is_answer words (Some all) (Some rest) bytes status text read answer =
       | inr short ↦ subst (λ (b : List ℕ). AnswersBytes status b) (sym (read.whole short)) (answers_same words bytes status text answer)
     ]
 
--- ---- equal bytes
+-- ---- a command that reads a script
 
-pub answer_of : (words : WordsOf) (bytes items : List ℕ) (status : Status) (text : List ℕ) → bytes ≡ items → IsAnswerTo words bytes status text → IsAnswerTo words items status text
-answer_of words bytes items status text is h = subst (λ (b : List ℕ). IsAnswerTo words b status text) is h
+no_fault : (words : WordsOf) (bytes : List ℕ) (status : Status) (text : List ℕ) → IsAnswerTo words bytes status text → (status ≢ Usage) × (status ≢ ReadFault) × (status ≢ WriteFault) × (status ≢ NoMemory)
+no_fault words bytes status text (inl answer) = let is = answer.status_is in (λ e. cc, λ e. cc, λ e. cc, λ e. cc)
+no_fault words bytes status text (inr answer) = let is = answer.status_is in (λ e. cc, λ e. cc, λ e. cc, λ e. cc)
 
-pub took_of : (taken took : Option (List ℕ)) (text items : List ℕ) → text ≡ items → Took taken took text → Took taken took items
-took_of taken took text items is h = subst (λ (t : List ℕ). Took taken took t) is h
+no_memory_answers : (left : Option (List ℕ)) → IfSome left (AnswersBytes NoMemory)
+no_memory_answers None = tt
+no_memory_answers (Some all) = record { spelled = λ script spelled. inr refl; refused = λ number cause refused. inr refl }
+
+-- the bytes that were read were given
+pub given_of : {left after : Option (List ℕ)} {bytes : List ℕ} → Reads left after bytes → HasGiven left after
+given_of {bytes = bytes} read = record { bytes = bytes; given = read.given; few = read.few }
+
+module _ {Sink : Type 0} {words : WordsOf} {left after : Option (List ℕ)} {read_faults read_faults_after : ℕ} where
+  pub serves_fault : {sink : Sink} {taken : Option (List ℕ)} {faults : ℕ} → HasGiven left after → HasRisen read_faults read_faults_after → read_faults ≤ read_faults_after
+      → Serves words left after read_faults read_faults_after sink sink taken taken faults faults ReadFault
+  serves_fault given risen counts = record {
+    no_usage = λ e. cc;
+    done = λ e. absurd cc;
+    refused = λ line cause e. absurd cc;
+    read_fault = λ e. (risen, given, refl);
+    write_fault = λ e. absurd cc;
+    no_memory = λ e. absurd cc;
+    complete = λ unread unwritten. absurd (unread risen);
+    source_counts = counts;
+    sink_counts = omega arith;
+  }
+
+  pub serves_no_memory : {sink : Sink} {taken : Option (List ℕ)} {faults : ℕ} → HasGiven left after → read_faults ≤ read_faults_after
+      → Serves words left after read_faults read_faults_after sink sink taken taken faults faults NoMemory
+  serves_no_memory given counts = record {
+    no_usage = λ e. cc;
+    done = λ e. absurd cc;
+    refused = λ line cause e. absurd cc;
+    read_fault = λ e. absurd cc;
+    write_fault = λ e. absurd cc;
+    no_memory = λ e. (given, refl);
+    complete = λ unread unwritten. no_memory_answers left;
+    source_counts = counts;
+    sink_counts = omega arith;
+  }
+
+  pub serves_answer : {sink sink_after : Sink} {taken took : Option (List ℕ)} {faults faults_after : ℕ} {bytes items text : List ℕ} {answered status : Status}
+      → Reads left after items → bytes ≡ items → IsAnswerTo words bytes answered text → IsWritten answered text taken took faults faults_after status
+      → read_faults ≤ read_faults_after → faults ≤ faults_after
+      → Serves words left after read_faults read_faults_after sink sink_after taken took faults faults_after status
+  serves_answer {taken = taken} {took = took} {items = items} {text = text} {answered = answered} read same answer (inl (is, written)) counts counts_too =
+      let here = subst (λ (b : List ℕ). IsAnswerTo words b answered text) same answer in
+      let none = no_fault words items answered text here in record {
+        no_usage = λ e. none.0 (sym is ∙ e);
+        done = λ e. is_reported words left after taken took items answered text read written here (sym is ∙ e);
+        refused = λ line cause e. is_refused words left after taken took items answered text read written here line cause (sym is ∙ e);
+        read_fault = λ e. absurd (none.1 (sym is ∙ e));
+        write_fault = λ e. absurd (none.2 (sym is ∙ e));
+        no_memory = λ e. absurd (none.3 (sym is ∙ e));
+        complete = λ unread unwritten. subst (λ (s : Status). IfSome left (AnswersBytes s)) (sym is) (is_answer words left after items answered text read here);
+        source_counts = counts;
+        sink_counts = counts_too;
+      }
+  serves_answer {taken = taken} {took = took} {items = items} {text = text} {answered = answered} read same answer (inr (is, risen, (count, front))) counts counts_too =
+      let here = subst (λ (b : List ℕ). IsAnswerTo words b answered text) same answer in record {
+        no_usage = λ e. cc;
+        done = λ e. absurd cc;
+        refused = λ line cause e. absurd cc;
+        read_fault = λ e. absurd cc;
+        write_fault = λ e. (risen, record { bytes = items; status = answered; text = text; count = count; read = read; answer = here; written = front });
+        no_memory = λ e. absurd cc;
+        complete = λ unread unwritten. absurd (unwritten risen);
+        source_counts = counts;
+        sink_counts = counts_too;
+      }
 
 -- ---- a reader's fault, and a command of one thread
 
@@ -116,9 +182,17 @@ refusal-answers words bytes (fault.Refused number cause) status text refused is 
     inr (record { number = number; cause = cause; refused = refused; status_is = is.0; text_is = is.1 })
 refusal-answers words bytes fault.NoMemory status text refused is = absurd is
 
-pub plain-reads : (command : Option Command) → IsSomeAnd (plain command) ReadsScript → IsSomeAnd command ReadsScript
-plain-reads None h = absurd h
-plain-reads (Some Run) h = absurd h
-plain-reads (Some Replay) h = h
-plain-reads (Some (Gen n)) h = h
-plain-reads (Some (Load n)) h = h
+-- a command that is known to be `run`, or known not to be, by a test that tells it from the others
+pub is_run : (same : Command → Command → Bool) → same Replay Run ≡ false → ((n : ℕ) → same (Gen n) Run ≡ false) → ((n : ℕ) → same (Load n) Run ≡ false) → (command : Option Command) → true ≡ option_eq same command (Some Run) → command ≡ Some Run
+is_run same replay gen load None is = absurd (false≢true (sym is))
+is_run same replay gen load (Some Run) is = refl
+is_run same replay gen load (Some Replay) is = absurd (false≢true (sym replay ∙ sym is))
+is_run same replay gen load (Some (Gen n)) is = absurd (false≢true (sym (gen n) ∙ sym is))
+is_run same replay gen load (Some (Load n)) is = absurd (false≢true (sym (load n) ∙ sym is))
+
+pub is_plain : (same : Command → Command → Bool) → same Run Run ≡ true → (command : Option Command) → false ≡ option_eq same command (Some Run) → plain command ≡ command
+is_plain same run None is = refl
+is_plain same run (Some Run) is = absurd (false≢true (is ∙ run))
+is_plain same run (Some Replay) is = refl
+is_plain same run (Some (Gen n)) is = refl
+is_plain same run (Some (Load n)) is = refl

@@ -1,7 +1,7 @@
 -- What a run of the program reads and writes.
-use Rattle.std.specs.Prelude.{◌≡◌, ℕ, ◌+◌, ◌^◌, ◌≤◌, ◌⊎◌, List, length, take, Option, IfSome}
+use Rattle.std.specs.Prelude.{◌≡◌, ◌≢◌, ℕ, ◌+◌, ◌≤◌, ◌⊎◌, List, length, take, Option, IfSome}
 use Rattle.anim_names.specs.declared.lane.Lane.{Lane}
-use Rattle.edge_io.specs.Edges.{Gave, Took}
+use Rattle.edge_io.specs.Edges.{Gave, HasRisen, Took}
 use Rattle.frame_script.specs.declared.TheConstants.{MOST_BYTES}
 use Rattle.frame_script.specs.declared.cause.Cause.{Cause}
 use Rattle.frame_script.specs.declared.fault.ScriptFault.{ScriptFault}
@@ -12,7 +12,7 @@ use Rattle.word_machine.specs.Laws.{KeepsLaws}
 use Rattle.anim_top.specs.declared.arguments.Command.{Command}
 use Rattle.anim_top.specs.declared.arguments.Command.TheVariants.{Run, Replay, Gen, Load}
 use Rattle.anim_top.specs.declared.status.Status.{Status}
-use Rattle.anim_top.specs.declared.status.Status.TheVariants.{Done, Refused, NoMemory}
+use Rattle.anim_top.specs.declared.status.Status.TheVariants.{Done, Usage, Refused, ReadFault, WriteFault, NoMemory}
 use Rattle.anim_top.specs.Answers.{generated_text, load_text, refusal_text, text_of_report}
 
 -- ---- reading
@@ -143,3 +143,23 @@ Answers Run left status = IfSome left (AnswersBytes status)
 Answers Replay left status = IfSome left (AnswersBytes status)
 Answers (Gen n) left status = OrNoMemory status Done
 Answers (Load n) left status = OrNoMemory status Done
+
+-- The sink took the whole text of an answer, and the status is the answer's; or it failed, and took a front of the text.
+abbrev pub IsWritten : Status → List ℕ → Option (List ℕ) → Option (List ℕ) → ℕ → ℕ → Status → Type 0
+IsWritten answered text taken took faults faults_after status =
+    ((status ≡ answered) × Took taken took text)
+    ⊎ ((status ≡ WriteFault) × HasRisen faults faults_after × ((count : ℕ) × Took taken took (take count text)))
+
+-- What the status says of a command that read a script: what the source had left before and after it, what the sink took,
+-- and how often either failed.
+pub record Serves {Sink : Type 0} (words : WordsOf) (left after : Option (List ℕ)) (read_faults read_faults_after : ℕ)
+    (sink sink_after : Sink) (taken took : Option (List ℕ)) (write_faults write_faults_after : ℕ) (status : Status) : Type 0 where
+  pub no_usage : status ≢ Usage
+  pub done : status ≡ Done → IsReported words left after taken took
+  pub refused : (line : ℕ) (cause : Cause) → status ≡ Refused line cause → IsRefused left after taken took line cause
+  pub read_fault : status ≡ ReadFault → HasRisen read_faults read_faults_after × HasGiven left after × (sink_after ≡ sink)
+  pub write_fault : status ≡ WriteFault → HasRisen write_faults write_faults_after × IsReportCutShort words left after taken took
+  pub no_memory : status ≡ NoMemory → HasGiven left after × (sink_after ≡ sink)
+  pub complete : ¬ HasRisen read_faults read_faults_after → ¬ HasRisen write_faults write_faults_after → IfSome left (AnswersBytes status)
+  pub source_counts : read_faults ≤ read_faults_after
+  pub sink_counts : write_faults ≤ write_faults_after

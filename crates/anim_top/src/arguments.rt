@@ -1,7 +1,7 @@
 //! Which commands the program knows.
 
 ghost use Rattle.std.specs.Prelude.{◌≡◌, ◌≤◌, IfSome, map, string_bytes};
-ghost use Rattle.anim_top.specs.Commands.{IsKnown, command_of, number_of_elements};
+ghost use Rattle.anim_top.specs.Commands.{IsKnown, by_name, command_of, number_of_elements, with_number};
 
 use script_fields::numbers::natural_within;
 use script_gen::MOST_GENERATED;
@@ -25,10 +25,32 @@ pub(crate) fn command_of(arguments: &[String]) -> Option<Command>
     ensures known { IfSome result IsKnown }
 {
     match arguments {
-        [name] if name.as_str() == "run" => Some(Command::Run),
-        [name] if name.as_str() == "replay" => Some(Command::Replay),
-        [name, number] if name.as_str() == "gen" => Some(Command::Gen(elements(number)?)),
-        [name, number] if name.as_str() == "load" => Some(Command::Load(elements(number)?)),
+        [name] => by_name(name),
+        [name, number] => with_number(name, number),
+        _ => None,
+    }
+}
+
+// A command that has no number.
+fn by_name(name: &String) -> Option<Command>
+    ensures value { result ≡ by_name (string_bytes name.now) }
+    ensures known { IfSome result IsKnown }
+{
+    match name.as_str() {
+        "run" => Some(Command::Run),
+        "replay" => Some(Command::Replay),
+        _ => None,
+    }
+}
+
+// A command with a number.
+fn with_number(name: &String, number: &String) -> Option<Command>
+    ensures value { result ≡ with_number (string_bytes name.now) (string_bytes number.now) }
+    ensures known { IfSome result IsKnown }
+{
+    match name.as_str() {
+        "gen" => Some(Command::Gen(elements(number)?)),
+        "load" => Some(Command::Load(elements(number)?)),
         _ => None,
     }
 }

@@ -4,9 +4,9 @@ ghost use Rattle.std.specs.Prelude.{◌≡◌, ◌≢◌, ◌↔◌, ◌⊎◌, 
 ghost use Rattle.edge_io.specs.Edges.{HasRisen, Took};
 ghost use Rattle.frame_script.specs.declared.cause.Cause.{Cause};
 ghost use Rattle.anim_top.specs.Commands.{command_of, plain};
-ghost use Rattle.anim_top.specs.Outside.{Answers, AnswersBytes, FoundWord, HasGiven, IsCutShort, IsDone, IsRefused, IsReportCutShort, IsReported, ReadsScript, own_word};
+ghost use Rattle.anim_top.specs.Outside.{Answers, FoundWord, HasGiven, IsCutShort, IsDone, IsRefused, IsWritten, ReadsScript, Serves, own_word};
 
-use crate::answer::{replay_bytes, run_bytes};
+use crate::answer::{Answer, replay_bytes, run_bytes};
 use crate::arguments::{Command, command_of};
 use crate::generating::{generated_text, load_text};
 use crate::intake::{ReadError, read_bytes};
@@ -144,20 +144,16 @@ fn run_source<
     G: Gate + Sync,
     F: VerdictFunction + Sync,
     E: EasingFunction + Sync,
->(rt: &R, alloc: Global, source: &mut S, sink: &mut K, gate: &G, hooks: &Hooks<F, E>) -> Status
-    ensures no_usage { result ≢ Status.Usage }
-    ensures done { result ≡ Status.Done → IsReported FoundWord (S.left source.old) (S.left source.new) (K.taken sink.old) (K.taken sink.new) }
-    ensures refused { (line : ℕ) (cause : Cause) → result ≡ Status.Refused line cause
-        → IsRefused (S.left source.old) (S.left source.new) (K.taken sink.old) (K.taken sink.new) line cause }
-    ensures read_fault { result ≡ Status.ReadFault → HasRisen (S.faults source.old) (S.faults source.new)
-        × HasGiven (S.left source.old) (S.left source.new) × (sink.new ≡ sink.old) }
-    ensures write_fault { result ≡ Status.WriteFault → HasRisen (K.faults sink.old) (K.faults sink.new)
-        × IsReportCutShort FoundWord (S.left source.old) (S.left source.new) (K.taken sink.old) (K.taken sink.new) }
-    ensures no_memory { result ≡ Status.NoMemory → HasGiven (S.left source.old) (S.left source.new) × (sink.new ≡ sink.old) }
-    ensures complete { ¬ HasRisen (S.faults source.old) (S.faults source.new) → ¬ HasRisen (K.faults sink.old) (K.faults sink.new)
-        → IfSome (S.left source.old) (AnswersBytes result) }
-    ensures source_counts { S.faults source.old ≤ S.faults source.new }
-    ensures sink_counts { K.faults sink.old ≤ K.faults sink.new }
+>(
+    rt: &R,
+    alloc: Global,
+    source: &mut S,
+    sink: &mut K,
+    gate: &G,
+    hooks: &Hooks<F, E>,
+) -> Status
+    ensures { Serves FoundWord (S.left source.old) (S.left source.new) (S.faults source.old) (S.faults source.new)
+        sink.old sink.new (K.taken sink.old) (K.taken sink.new) (K.faults sink.old) (K.faults sink.new) result }
 {
     let bytes = match read_bytes(alloc, source) {
         Ok(bytes) => bytes,
@@ -167,10 +163,7 @@ fn run_source<
     let Ok(answer) = run_bytes(rt, alloc, bytes.as_slice(), gate, hooks) else {
         return Status::NoMemory;
     };
-    match write_all(sink, answer.text.as_slice()) {
-        Ok(()) => answer.status,
-        Err(_) => Status::WriteFault,
-    }
+    write_answer(sink, &answer)
 }
 
 // Reads a script from the source, and writes its report for its own word, or its refusal, to the sink.
@@ -180,19 +173,8 @@ fn replay_source<S: Source, K: Sink, F: VerdictFunction, E: EasingFunction>(
     sink: &mut K,
     hooks: &Hooks<F, E>,
 ) -> Status
-    ensures no_usage { result ≢ Status.Usage }
-    ensures done { result ≡ Status.Done → IsReported own_word (S.left source.old) (S.left source.new) (K.taken sink.old) (K.taken sink.new) }
-    ensures refused { (line : ℕ) (cause : Cause) → result ≡ Status.Refused line cause
-        → IsRefused (S.left source.old) (S.left source.new) (K.taken sink.old) (K.taken sink.new) line cause }
-    ensures read_fault { result ≡ Status.ReadFault → HasRisen (S.faults source.old) (S.faults source.new)
-        × HasGiven (S.left source.old) (S.left source.new) × (sink.new ≡ sink.old) }
-    ensures write_fault { result ≡ Status.WriteFault → HasRisen (K.faults sink.old) (K.faults sink.new)
-        × IsReportCutShort own_word (S.left source.old) (S.left source.new) (K.taken sink.old) (K.taken sink.new) }
-    ensures no_memory { result ≡ Status.NoMemory → HasGiven (S.left source.old) (S.left source.new) × (sink.new ≡ sink.old) }
-    ensures complete { ¬ HasRisen (S.faults source.old) (S.faults source.new) → ¬ HasRisen (K.faults sink.old) (K.faults sink.new)
-        → IfSome (S.left source.old) (AnswersBytes result) }
-    ensures source_counts { S.faults source.old ≤ S.faults source.new }
-    ensures sink_counts { K.faults sink.old ≤ K.faults sink.new }
+    ensures { Serves own_word (S.left source.old) (S.left source.new) (S.faults source.old) (S.faults source.new)
+        sink.old sink.new (K.taken sink.old) (K.taken sink.new) (K.faults sink.old) (K.faults sink.new) result }
 {
     let bytes = match read_bytes(alloc, source) {
         Ok(bytes) => bytes,
@@ -202,6 +184,15 @@ fn replay_source<S: Source, K: Sink, F: VerdictFunction, E: EasingFunction>(
     let Ok(answer) = replay_bytes(alloc, bytes.as_slice(), hooks) else {
         return Status::NoMemory;
     };
+    write_answer(sink, &answer)
+}
+
+// Writes the text of an answer. The status is the answer's, unless the sink fails.
+fn write_answer<K: Sink>(sink: &mut K, answer: &Answer) -> Status
+    ensures written { IsWritten answer.now.status answer.now.text.items (K.taken sink.old) (K.taken sink.new)
+        (K.faults sink.old) (K.faults sink.new) result }
+    ensures sink_counts { K.faults sink.old ≤ K.faults sink.new }
+{
     match write_all(sink, answer.text.as_slice()) {
         Ok(()) => answer.status,
         Err(_) => Status::WriteFault,

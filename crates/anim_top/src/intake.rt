@@ -9,7 +9,7 @@ use frame_script::MOST_BYTES;
 use std::alloc::{AllocError, Global};
 
 /// Why a source's bytes could not be read.
-#[derive(Clone, Copy, PartialEq, Eq)]
+#[derive(Clone, Copy)]
 pub enum ReadError {
     Fault,
     NoMemory,
