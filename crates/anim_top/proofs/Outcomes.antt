@@ -11,12 +11,15 @@ use Rattle.frame_script.specs.declared.fault.ScriptFault.{ScriptFault}
 use Rattle.frame_script.specs.declared.fault.ScriptFault.TheVariants as fault
 use Rattle.frame_script.specs.Texts.{IsRefusedAt, IsWhy}
 use Rattle.frame_script.proofs.Leads.{not_spelled_and_refused, one_refusal}
+use Rattle.anim_names.specs.declared.lane.Lane.{Lane}
+use Rattle.tree_commit.specs.Scripts.{IsWordOf, ScriptLists}
+use Rattle.word_machine.specs.Laws.{KeepsLaws}
 use Rattle.anim_top.specs.declared.arguments.Command.{Command}
 use Rattle.anim_top.specs.declared.arguments.Command.TheVariants.{Run, Replay, Gen, Load}
 use Rattle.anim_top.specs.Commands.{plain}
 use Rattle.anim_top.specs.declared.status.Status.{Status}
 use Rattle.anim_top.specs.declared.status.Status.TheVariants.{Done, Usage, Refused, ReadFault, WriteFault, NoMemory}
-use Rattle.anim_top.specs.Outside.{AnswersBytes, HasGiven, IsAnswerTo, IsRefused, IsReported, IsWritten, Reads, RefusesAs, Serves, WordsOf}
+use Rattle.anim_top.specs.Outside.{AnswersBytes, FoundWord, HasGiven, IsAnswerTo, IsRefused, IsReported, IsWritten, Reads, RefusesAs, Serves, WordsOf}
 
 -- ---- what was written
 
@@ -175,6 +178,11 @@ module _ {Sink : Type 0} {words : WordsOf} {left after : Option (List ℕ)} {rea
 pub if_ok_so : {T E : Type 0} {P Q : T → Type 0} (r : Result T E) → ((value : T) → P value → Q value) → IfOk r P → IfOk r Q
 if_ok_so (Ok value) f p = f value p
 if_ok_so (Err error) f p = tt
+
+-- a word that orders the steps, and of which the laws are true, is found
+pub found_if_ok : {T E : Type 0} (script : ScriptLists) (word : T → List Lane) (r : Result T E) → IfOk r (λ value. IsWordOf (length script.main) (length script.compositor) (word value)) → IfOk r (λ value. KeepsLaws script (word value)) → IfOk r (λ value. FoundWord script (word value))
+found_if_ok script word (Ok value) orders laws = record { orders = orders; laws = laws }
+found_if_ok script word (Err error) orders laws = tt
 
 -- a refusal is the answer to what it refuses, whatever words a report may be of
 pub refusal-answers : (words : WordsOf) (bytes : List ℕ) (why : ScriptFault) (status : Status) (text : List ℕ) → IsWhy bytes why → RefusesAs why status text → IsAnswerTo words bytes status text

@@ -144,14 +144,7 @@ fn run_source<
     G: Gate + Sync,
     F: VerdictFunction + Sync,
     E: EasingFunction + Sync,
->(
-    rt: &R,
-    alloc: Global,
-    source: &mut S,
-    sink: &mut K,
-    gate: &G,
-    hooks: &Hooks<F, E>,
-) -> Status
+>(rt: &R, alloc: Global, source: &mut S, sink: &mut K, gate: &G, hooks: &Hooks<F, E>) -> Status
     ensures { Serves FoundWord (S.left source.old) (S.left source.new) (S.faults source.old) (S.faults source.new)
         sink.old sink.new (K.taken sink.old) (K.taken sink.new) (K.faults sink.old) (K.faults sink.new) result }
 {

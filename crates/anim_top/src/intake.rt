@@ -78,7 +78,8 @@ fn read_part<S: Source>(
     ensures never_falls { S.faults source.old ≤ S.faults source.new }
 {
     let mut buffer = [0u8; PART];
-    let count = source.read(&mut buffer[..room])?;
-    bytes.extend_from_slice(&buffer[..count])?;
+    let part = &mut buffer[..room];
+    let count = source.read(part)?;
+    bytes.extend_from_slice(&part[..count])?;
     Ok(count)
 }
