@@ -1,7 +1,10 @@
 use Rattle.std.proofs.Common.{ℕ, arith, length-drop}
 use Rattle.std.proofs.lemmas.List.{length-take}
-use Rattle.anim_top.proofs.Moves.{Took-then, take-+}
+use Rattle.anim_top.proofs.Moves.{Took-nothing, Took-then, take-+}
 use Rattle.anim_top.proofs.outlet.write_all.Goals as goal
+
+pub loop-count-init : goal.loop-count-init
+loop-count-init g c = record { taken = Took-nothing _; within = omega arith; never_falls = omega arith }
 
 pub loop-count-preserved : goal.loop-count-preserved
 loop-count-preserved g c = record {
