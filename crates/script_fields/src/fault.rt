@@ -1,7 +1,7 @@
 use thiserror::Error;
 
 /// What is wrong with a field.
-#[derive(Clone, Copy, Debug, PartialEq, Eq, Error)]
+#[derive(Clone, Copy, Debug, Error)]
 pub enum FieldFault {
     /// It is none of the keywords that may stand there, or it has other parts.
     #[error("the field is not of a form that may stand there")]

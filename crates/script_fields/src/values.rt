@@ -13,7 +13,7 @@ use value_blend::Opacity;
 
 /// How often a curve is run through, as a script says it: whether so often is in range is judged with the rest of the
 /// timing.
-#[derive(Clone, Copy, PartialEq, Eq)]
+#[derive(Clone, Copy)]
 pub enum Count {
     /// Over and over.
     Endless,
@@ -23,7 +23,7 @@ pub enum Count {
 
 /// The numbers of which a timing is made, whether they are in range or not: the offset in microseconds, the others in
 /// thousandths.
-#[derive(Clone, Copy, PartialEq, Eq)]
+#[derive(Clone, Copy)]
 pub struct TimingNumbers {
     pub offset: i64,
     pub iterations: Count,
