@@ -49,12 +49,16 @@ short_reading : (bytes : List ℕ) → length bytes ≤ MOST_BYTES → reading b
 unfolding reading
 short_reading bytes short = rw (le-ltb MOST_BYTES (length bytes) short) refl
 
+-- what is left where the lines of a text end is what the text is read as
+pub short_is_read : (bytes : List ℕ) (from : ScriptState) (n : ℕ) (stage : Stage) (script : ScriptLists) → length bytes ≤ MOST_BYTES → from ≡ beginning
+    → reading_from 1 from (lines bytes) ≡ end_at n stage script → reading bytes ≡ end_at n stage script
+short_is_read bytes from n stage script short begins read =
+    short_reading bytes short ∙ (ap (λ (s : ScriptState). reading_from 1 s (lines bytes)) (sym begins) ∙ read)
+
 pub well_formed_at_end : (bytes : List ℕ) (from : ScriptState) (n : ℕ) (stage : Stage) (script : ScriptLists) → length bytes ≤ MOST_BYTES → from ≡ beginning
     → reading_from 1 from (lines bytes) ≡ end_at n stage script → stage ≡ Ended → IsWellFormed script
 well_formed_at_end bytes from n stage script short begins read ended =
-    let whole : reading bytes ≡ Ok script =
-    short_reading bytes short ∙ (ap (λ (s : ScriptState). reading_from 1 s (lines bytes)) (sym begins) ∙ (read ∙ ended_reads n stage script ended)) in
-    spelled_is_well_formed bytes script (read_is_spelled bytes script whole)
+    spelled_is_well_formed bytes script (read_is_spelled bytes script (short_is_read bytes from n stage script short begins read ∙ ended_reads n stage script ended))
 
 why : (bytes : List ℕ) (fault : ScriptFault) → FailsAs (reading bytes) fault → IsWhy bytes fault
 why bytes (fault.Refused line cause) failed = read_is_refused bytes (refusal line cause) failed

@@ -22,7 +22,7 @@ use std::sync::Arc;
 use tree_commit::{Edit, MainStep};
 
 /// Which line may stand next, where that is no key.
-#[derive(Clone, Copy, PartialEq, Eq)]
+#[derive(Clone, Copy)]
 pub(crate) enum ReaderStage {
     Header,
     MainPart,
