@@ -36,7 +36,10 @@ fn tick_said(fields: &[&[u8]]) -> Result<CompositorStep, LineFault>
     ensures { Gives (λ step. step) result (said.tick_said (map (λ field. field.now) fields.now)) }
 {
     match fields {
-        [time] => Ok(CompositorStep::Tick(time_said(time).ok_or(Cause::BadNumber)?)),
+        [time] => match time_said(time) {
+            Some(time) => Ok(CompositorStep::Tick(time)),
+            None => Err(LineFault::Refused(Cause::BadNumber)),
+        },
         _ => Err(LineFault::Refused(Cause::BadLine)),
     }
 }
@@ -46,7 +49,7 @@ pub fn word_said(alloc: Global, fields: &[&[u8]]) -> Result<Vec<Lane>, LineFault
     ensures { Gives (λ word. word.items) result (said.word_said (map (λ field. field.now) fields.now)) }
 {
     match fields {
-        [letters] => Ok(letters_said(alloc, letters)?.ok_or(Cause::BadWord)?),
+        [letters] => letters_said(alloc, letters)?.ok_or(LineFault::Refused(Cause::BadWord)),
         _ => Err(LineFault::Refused(Cause::BadLine)),
     }
 }

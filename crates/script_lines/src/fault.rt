@@ -7,7 +7,7 @@ use frame_script::Cause;
 use std::alloc::{AllocError, AllocFailed};
 
 /// Why a line could not be read.
-#[derive(Clone, Copy, PartialEq, Eq)]
+#[derive(Clone, Copy)]
 pub enum LineFault {
     /// The line is refused for this cause.
     Refused(Cause),

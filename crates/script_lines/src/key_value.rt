@@ -39,7 +39,7 @@ impl KeyValue for Opacity {
 
     fn said(_alloc: Global, fields: &[&[u8]]) -> Result<Self, LineFault> {
         match fields {
-            [field] => Ok(opacity_said(field).ok_or(Cause::BadNumber)?),
+            [field] => opacity_said(field).ok_or(LineFault::Refused(Cause::BadNumber)),
             _ => Err(LineFault::Refused(Cause::BadLine)),
         }
     }

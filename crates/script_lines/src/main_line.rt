@@ -175,7 +175,7 @@ fn old_id(fields: &[&[u8]]) -> Result<u32, LineFault>
     ensures { Gives (λ id. id) result (said.old_id (map (λ field. field.now) fields.now)) }
 {
     match fields {
-        [id] => Ok(id_said(id).ok_or(Cause::BadNumber)?),
+        [id] => id_said(id).ok_or(LineFault::Refused(Cause::BadNumber)),
         _ => Err(LineFault::Refused(Cause::BadLine)),
     }
 }

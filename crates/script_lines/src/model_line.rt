@@ -24,14 +24,14 @@ pub fn model_said(fields: &[&[u8]]) -> Result<ModelLine, LineFault>
     ensures start { IfOk result (λ line. IfSome line.names.start (λ time. time ≤ LAST_TIME)) }
 {
     if fields.len() == FIELDS {
-        after_model(fields)
+        Ok(after_model(fields)?)
     } else {
         Err(LineFault::Refused(Cause::BadLine))
     }
 }
 
-fn after_model(fields: &[&[u8]]) -> Result<ModelLine, LineFault>
-    ensures value { Gives (λ line. line) result (said.after_model (map (λ field. field.now) fields.now)) }
+fn after_model(fields: &[&[u8]]) -> Result<ModelLine, Cause>
+    ensures value { result ≡ said.after_model (map (λ field. field.now) fields.now) }
     ensures start { IfOk result (λ line. IfSome line.names.start (λ time. time ≤ LAST_TIME)) }
 {
     match fields {
@@ -39,7 +39,7 @@ fn after_model(fields: &[&[u8]]) -> Result<ModelLine, LineFault>
             let names = names_said(id, group, element, timeline, property, start)?;
             after_names(&names, more)
         }
-        _ => Err(LineFault::Refused(Cause::BadLine)),
+        _ => Err(Cause::BadLine),
     }
 }
 
@@ -51,8 +51,8 @@ fn names_said(
     timeline: &[u8],
     property: &[u8],
     start: &[u8],
-) -> Result<ModelNames, LineFault>
-    ensures value { Gives (λ names. names) result (said.names_said id.now group.now element.now timeline.now property.now start.now) }
+) -> Result<ModelNames, Cause>
+    ensures value { result ≡ said.names_said id.now group.now element.now timeline.now property.now start.now }
     ensures start { IfOk result (λ names. IfSome names.start (λ time. time ≤ LAST_TIME)) }
 {
     let (id, (group, (element, timeline))) = ids_said(id, group, element, timeline)?;
@@ -74,8 +74,8 @@ fn ids_said(
     group: &[u8],
     element: &[u8],
     timeline: &[u8],
-) -> Result<(u32, (u32, (u32, u32))), LineFault>
-    ensures { Gives (λ ids. ids) result (said.ids_said id.now group.now element.now timeline.now) }
+) -> Result<(u32, (u32, (u32, u32))), Cause>
+    ensures { result ≡ said.ids_said id.now group.now element.now timeline.now }
 {
     let id = id_said(id).ok_or(Cause::BadNumber)?;
     let group = id_said(group).ok_or(Cause::BadNumber)?;
@@ -84,9 +84,9 @@ fn ids_said(
     Ok((id, (group, (element, timeline))))
 }
 
-fn after_names(names: &ModelNames, fields: &[&[u8]]) -> Result<ModelLine, LineFault>
+fn after_names(names: &ModelNames, fields: &[&[u8]]) -> Result<ModelLine, Cause>
     requires { IfSome names.now.start (λ time. time ≤ LAST_TIME) }
-    ensures value { Gives (λ line. line) result (said.after_names names.now (map (λ field. field.now) fields.now)) }
+    ensures value { result ≡ said.after_names names.now (map (λ field. field.now) fields.now) }
     ensures start { IfOk result (λ line. IfSome line.names.start (λ time. time ≤ LAST_TIME)) }
 {
     match fields {
@@ -94,7 +94,7 @@ fn after_names(names: &ModelNames, fields: &[&[u8]]) -> Result<ModelLine, LineFa
             let numbers = numbers_said(offset, iterations, start, direction, fill, rate)?;
             after_numbers(names, numbers, more)
         }
-        _ => Err(LineFault::Refused(Cause::BadLine)),
+        _ => Err(Cause::BadLine),
     }
 }
 
@@ -106,8 +106,8 @@ fn numbers_said(
     direction: &[u8],
     fill: &[u8],
     rate: &[u8],
-) -> Result<TimingNumbers, LineFault>
-    ensures { Gives (λ numbers. numbers) result (said.numbers_said offset.now iterations.now iteration_start.now direction.now fill.now rate.now) }
+) -> Result<TimingNumbers, Cause>
+    ensures { result ≡ said.numbers_said offset.now iterations.now iteration_start.now direction.now fill.now rate.now }
 {
     let (offset, (iterations, iteration_start)) = span_said(offset, iterations, iteration_start)?;
     let (direction, (fill, rate)) = course_said(direction, fill, rate)?;
@@ -126,8 +126,8 @@ fn span_said(
     offset: &[u8],
     iterations: &[u8],
     iteration_start: &[u8],
-) -> Result<(i64, (Count, i64)), LineFault>
-    ensures { Gives (λ span. span) result (said.span_said offset.now iterations.now iteration_start.now) }
+) -> Result<(i64, (Count, i64)), Cause>
+    ensures { result ≡ said.span_said offset.now iterations.now iteration_start.now }
 {
     let offset = number_said(offset).ok_or(Cause::BadNumber)?;
     let iterations = count_said(iterations).ok_or(Cause::BadNumber)?;
@@ -140,8 +140,8 @@ fn course_said(
     direction: &[u8],
     fill: &[u8],
     rate: &[u8],
-) -> Result<(Direction, (Fill, i64)), LineFault>
-    ensures { Gives (λ course. course) result (said.course_said direction.now fill.now rate.now) }
+) -> Result<(Direction, (Fill, i64)), Cause>
+    ensures { result ≡ said.course_said direction.now fill.now rate.now }
 {
     let direction = direction_said(direction).ok_or(Cause::BadLine)?;
     let fill = fill_said(fill).ok_or(Cause::BadLine)?;
@@ -153,14 +153,14 @@ fn after_numbers(
     names: &ModelNames,
     numbers: TimingNumbers,
     fields: &[&[u8]],
-) -> Result<ModelLine, LineFault>
+) -> Result<ModelLine, Cause>
     requires { IfSome names.now.start (λ time. time ≤ LAST_TIME) }
-    ensures value { Gives (λ line. line) result (said.after_numbers names.now numbers (map (λ field. field.now) fields.now)) }
+    ensures value { result ≡ said.after_numbers names.now numbers (map (λ field. field.now) fields.now) }
     ensures start { IfOk result (λ line. IfSome line.names.start (λ time. time ≤ LAST_TIME)) }
 {
     match fields {
         [policy, easing, keys] => curve_line_said(names, numbers, policy, easing, keys),
-        _ => Err(LineFault::Refused(Cause::BadLine)),
+        _ => Err(Cause::BadLine),
     }
 }
 
@@ -171,9 +171,9 @@ fn curve_line_said(
     policy: &[u8],
     easing: &[u8],
     keys: &[u8],
-) -> Result<ModelLine, LineFault>
+) -> Result<ModelLine, Cause>
     requires { IfSome names.now.start (λ time. time ≤ LAST_TIME) }
-    ensures value { Gives (λ line. line) result (said.curve_line_said names.now numbers policy.now easing.now keys.now) }
+    ensures value { result ≡ said.curve_line_said names.now numbers policy.now easing.now keys.now }
     ensures start { IfOk result (λ line. IfSome line.names.start (λ time. time ≤ LAST_TIME)) }
 {
     let policy = policy_said(policy).ok_or(Cause::BadLine)?;
@@ -190,11 +190,11 @@ fn curve_line_said(
 }
 
 #[tactic(auto, unfolding(frame_script::specs::Said::key_count_said))]
-fn key_count_said(field: &[u8]) -> Result<usize, LineFault>
-    ensures { Gives (λ count. count) result (said.key_count_said field.now) }
+fn key_count_said(field: &[u8]) -> Result<usize, Cause>
+    ensures { result ≡ said.key_count_said field.now }
 {
     let number = number_said(field).ok_or(Cause::BadNumber)?;
-    Ok(key_count_of(number).ok_or(Cause::BadCurve)?)
+    key_count_of(number).ok_or(Cause::BadCurve)
 }
 
 fn key_count_of(number: i64) -> Option<usize>
