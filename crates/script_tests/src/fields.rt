@@ -8,12 +8,14 @@ use script_fields::keywords::{
     direction_said, fill_said, iterations_said, policy_said, property_said,
 };
 use script_fields::{easing_said, fields_of, integer_within, is, list_said, natural_within};
+use std::alloc::{AllocError, Global};
+use std::process::Abort;
 use std::test::Fail;
-use transform_ops::TransformOp;
+use transform_ops::{TransformList, TransformOp};
 
 #[test]
 fn numbers_have_one_spelling(rt: HostRuntime) {
-    for (field, low, high, number) in [
+    for (field, low, high, number) in &[
         ("0", 0, 9, Some(0)),
         ("-7", -7, 9, Some(-7)),
         ("9", -7, 9, Some(9)),
@@ -30,11 +32,8 @@ fn numbers_have_one_spelling(rt: HostRuntime) {
         ("9223372036854775808", i64::MIN, i64::MAX, None),
         ("99999999999999999999999", i64::MIN, i64::MAX, None),
     ] {
-        assert_eq!(rt;
-            integer_within(field.as_bytes(), low, high),
-            number,
-            "for {field:?}"
-        );
+        let said = integer_within(field.as_bytes(), *low, *high);
+        assert!(rt; said == *number, "for {field:?}");
     }
     assert!(rt; natural_within(b"1125899906842624", 0, 1 << 50) == Some(1 << 50));
     assert!(rt; natural_within(b"1125899906842625", 0, 1 << 50) == None);
@@ -51,36 +50,52 @@ fn a_space_more_makes_an_empty_field(rt: HostRuntime) -> Result<(), Fail> {
 }
 
 #[test]
-fn keywords_say_what_they_name(rt: HostRuntime) {
+fn properties_have_two_words(rt: HostRuntime) {
     assert!(rt; property_said(b"opacity") == Some(Property::Opacity));
     assert!(rt; property_said(b"transform") == Some(Property::Transform));
     assert!(rt; property_said(b"Opacity") == None);
-    for (word, direction) in [
+}
+
+#[test]
+fn directions_have_four_words(rt: HostRuntime) {
+    for (word, direction) in &[
         ("normal", Some(Direction::Normal)),
         ("reverse", Some(Direction::Reverse)),
         ("alternate", Some(Direction::Alternate)),
         ("alternate-reverse", Some(Direction::AlternateReverse)),
         ("reverse-alternate", None),
     ] {
-        assert!(rt; direction_said(word.as_bytes()) == direction, "for {word}");
+        assert!(rt; direction_said(word.as_bytes()) == *direction, "for {word}");
     }
-    for (word, fill) in [
+}
+
+#[test]
+fn fills_have_four_words(rt: HostRuntime) {
+    for (word, fill) in &[
         ("none", Some(Fill::Neither)),
         ("forwards", Some(Fill::Forwards)),
         ("backwards", Some(Fill::Backwards)),
         ("both", Some(Fill::Both)),
         ("neither", None),
     ] {
-        assert!(rt; fill_said(word.as_bytes()) == fill, "for {word}");
+        assert!(rt; fill_said(word.as_bytes()) == *fill, "for {word}");
     }
-    for (word, policy) in [
+}
+
+#[test]
+fn policies_have_three_words(rt: HostRuntime) {
+    for (word, policy) in &[
         ("auto", Some(Policy::Auto)),
         ("finished", Some(Policy::FinishedOnly)),
         ("manual", Some(Policy::Manual)),
         ("none", None),
     ] {
-        assert!(rt; policy_said(word.as_bytes()) == policy, "for {word}");
+        assert!(rt; policy_said(word.as_bytes()) == *policy, "for {word}");
     }
+}
+
+#[test]
+fn iterations_are_counted_or_endless(rt: HostRuntime) {
     assert!(rt; iterations_said(b"infinite") == Some(Iterations::Infinite));
     assert!(rt; iterations_said(b"2500") == Some(Iterations::Finite(2500)));
     assert!(rt; iterations_said(b"1000000001") == None);
@@ -89,7 +104,7 @@ fn keywords_say_what_they_name(rt: HostRuntime) {
 
 #[test]
 fn easings_are_spelled_in_three_forms(rt: HostRuntime) {
-    for (field, easing) in [
+    for (field, easing) in &[
         ("linear", Some(Easing::Linear)),
         (
             "ease",
@@ -136,43 +151,62 @@ fn easings_are_spelled_in_three_forms(rt: HostRuntime) {
         ("spring", None),
         ("", None),
     ] {
-        assert!(rt; easing_said(field.as_bytes()) == easing, "for {field:?}");
+        assert!(rt; easing_said(field.as_bytes()) == *easing, "for {field:?}");
+    }
+}
+
+const LIST: &str = "translate:0:-40000:1 scale:1:2:3 rotate:0:0:1:90000 skew:1099511627776:-2";
+
+const OPERATIONS: [TransformOp; 4] = [
+    TransformOp::Translate {
+        x: 0,
+        y: -40_000,
+        z: 1,
+    },
+    TransformOp::Scale { x: 1, y: 2, z: 3 },
+    TransformOp::Rotate {
+        x: 0,
+        y: 0,
+        z: 1,
+        angle: 90_000,
+    },
+    TransformOp::Skew { x: 1 << 40, y: -2 },
+];
+
+// The list that the fields of a line spell.
+fn list_of(alloc: Global, line: &str) -> Result<Option<TransformList>, AllocError> {
+    let fields = fields_of(alloc, line.as_bytes())?;
+    list_said(alloc, fields.as_slice())
+}
+
+fn expect_operations(rt: &impl Abort, list: &TransformList) {
+    assert!(rt; list.len() == OPERATIONS.len());
+    for (i, op) in OPERATIONS.iter().enumerate() {
+        if i < list.len() {
+            assert!(rt; list.op(i) == *op);
+        }
     }
 }
 
 #[test]
-fn a_list_is_none_or_operations(rt: HostRuntime) -> Result<(), Fail> {
-    let alloc = rt.alloc();
-    let line = b"translate:0:-40000:1 scale:1:2:3 rotate:0:0:1:90000 skew:1099511627776:-2";
-    let Some(list) = list_said(alloc, fields_of(alloc, line)?.as_slice())? else {
+fn a_list_is_operations(rt: HostRuntime) -> Result<(), Fail> {
+    let Some(list) = list_of(rt.alloc(), LIST)? else {
         return Err(Fail::from("the list says nothing"));
     };
-    assert!(rt; list.len() == 4);
-    for (i, op) in [
-        TransformOp::Translate {
-            x: 0,
-            y: -40_000,
-            z: 1,
-        },
-        TransformOp::Scale { x: 1, y: 2, z: 3 },
-        TransformOp::Rotate {
-            x: 0,
-            y: 0,
-            z: 1,
-            angle: 90_000,
-        },
-        TransformOp::Skew { x: 1 << 40, y: -2 },
-    ]
-    .into_iter()
-    .enumerate()
-    {
-        if i < list.len() {
-            assert!(rt; list.op(i) == op);
-        }
-    }
-    let empty = list_said(alloc, fields_of(alloc, b"none")?.as_slice())?;
+    expect_operations(&rt, &list);
+    Ok(())
+}
+
+#[test]
+fn a_word_is_the_list_of_none(rt: HostRuntime) -> Result<(), Fail> {
+    let empty = list_of(rt.alloc(), "none")?;
     assert!(rt; matches!(&empty, Some(list) if list.is_empty()));
-    for line in [
+    Ok(())
+}
+
+#[test]
+fn other_fields_are_no_list(rt: HostRuntime) -> Result<(), Fail> {
+    for line in &[
         "none none",
         "skew:1:2 none",
         "skew:1",
@@ -182,8 +216,7 @@ fn a_list_is_none_or_operations(rt: HostRuntime) -> Result<(), Fail> {
         "matrix:1:0:0:1",
         "skew:1:2 skew:1:2 skew:1:2 skew:1:2 skew:1:2 skew:1:2 skew:1:2 skew:1:2 skew:1:2",
     ] {
-        let said = list_said(alloc, fields_of(alloc, line.as_bytes())?.as_slice())?;
-        assert!(rt; said.is_none(), "for {line:?}");
+        assert!(rt; list_of(rt.alloc(), line)?.is_none(), "for {line:?}");
     }
     Ok(())
 }

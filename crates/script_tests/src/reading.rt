@@ -168,20 +168,38 @@ const REFUSED: [(Change, u32, Cause); 32] = [
     (Change(11, "tick ", 200_000, 16), 12, Cause::BadLine),
 ];
 
-fn changed(alloc: Global, change: Change) -> Result<String, AllocError> {
-    let Change(before, text, times, behind) = change;
-    let mut out = String::new(alloc);
-    for line in FADE.iter().take(before) {
-        out.push_str(line)?;
-        out.push('\n')?;
+fn push_lines_before(out: &mut String, count: usize) -> Result<(), AllocError> {
+    for line in FADE.iter().take(count) {
+        push_line(out, line)?;
     }
+    Ok(())
+}
+
+fn push_lines_behind(out: &mut String, count: usize) -> Result<(), AllocError> {
+    for line in FADE.iter().skip(count) {
+        push_line(out, line)?;
+    }
+    Ok(())
+}
+
+fn push_line(out: &mut String, line: &str) -> Result<(), AllocError> {
+    out.push_str(line)?;
+    out.push('\n')
+}
+
+fn push_times(out: &mut String, text: &str, times: usize) -> Result<(), AllocError> {
     for _ in 0..times {
         out.push_str(text)?;
     }
-    for line in FADE.iter().skip(behind) {
-        out.push_str(line)?;
-        out.push('\n')?;
-    }
+    Ok(())
+}
+
+fn changed(alloc: Global, change: Change) -> Result<String, AllocError> {
+    let Change(before, text, times, behind) = change;
+    let mut out = String::new(alloc);
+    push_lines_before(&mut out, before)?;
+    push_times(&mut out, text, times)?;
+    push_lines_behind(&mut out, behind)?;
     Ok(out)
 }
 
@@ -190,16 +208,21 @@ fn fault(alloc: Global, bytes: &[u8]) -> Option<ScriptFault> {
     read_script(alloc, bytes).err()
 }
 
+// At which line the fade with a change is refused, and why.
+fn fault_of(alloc: Global, change: Change) -> Result<Option<ScriptFault>, AllocError> {
+    let text = changed(alloc, change)?;
+    Ok(fault(alloc, text.as_bytes()))
+}
+
 #[test]
 fn the_first_wrong_line_is_refused(rt: HostRuntime) -> Result<(), Fail> {
-    for (change, line, cause) in REFUSED {
-        let text = changed(rt.alloc(), change)?;
-        assert_eq!(rt;
-            fault(rt.alloc(), text.as_bytes()),
-            Some(ScriptFault::Refused { line, cause }),
-            "{}",
-            change.1
-        );
+    for (change, line, cause) in &REFUSED {
+        let found = fault_of(rt.alloc(), *change)?;
+        let refused = Some(ScriptFault::Refused {
+            line: *line,
+            cause: *cause,
+        });
+        assert!(rt; found == refused, "for {}", change.1);
     }
     Ok(())
 }
