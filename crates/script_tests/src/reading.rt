@@ -33,7 +33,7 @@ const FADE: [&str; 16] = [
 struct Change(usize, &'static str, usize, usize);
 
 /// The fade with a change: at which line it is refused, and why.
-const REFUSED: [(Change, u32, Cause); 32] = [
+const REFUSED: &[(Change, u32, Cause)] = &[
     (Change(0, "", 0, 16), 1, Cause::MissingPart),
     (Change(0, "anim 3\n", 1, 1), 1, Cause::BadHeader),
     (Change(8, "compositors\n", 1, 9), 9, Cause::BadLine),
@@ -216,7 +216,7 @@ fn fault_of(alloc: Global, change: Change) -> Result<Option<ScriptFault>, AllocE
 
 #[test]
 fn the_first_wrong_line_is_refused(rt: HostRuntime) -> Result<(), Fail> {
-    for (change, line, cause) in &REFUSED {
+    for (change, line, cause) in REFUSED {
         let found = fault_of(rt.alloc(), *change)?;
         let refused = Some(ScriptFault::Refused {
             line: *line,
