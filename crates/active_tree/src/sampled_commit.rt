@@ -159,7 +159,7 @@ impl SampledCommit {
         ensures same { self.new ≡ self.old }
     {
         let local = self.commit.local_time(model, time, start);
-        let sample = sample_at(self.alloc, model, local, evaluator)?;
+        let sample = Sample::at(self.alloc, model, local, evaluator)?;
         self.keep_if_over(model, start, time, local, &sample)?;
         Ok(sample)
     }
@@ -205,22 +205,6 @@ impl SampledCommit {
         };
         self.kept.insert(id, kept)?;
         Ok(())
-    }
-}
-
-// The value of the model at a local time, in microseconds, where it gives one.
-fn sample_at<E: EasingFunction>(
-    alloc: Global,
-    model: &ModelSpec,
-    local: i64,
-    evaluator: &Evaluator<E>,
-) -> Result<Option<Sample>, AllocError>
-    requires { unsigned_abs local ≤ LARGEST_LOCAL }
-    ensures { IfOk result (λ sample. option_map sample_of sample ≡ model_value model.now local) }
-{
-    match model.value(local, evaluator)? {
-        None => Ok(None),
-        Some(value) => Ok(Some(Sample::of(alloc, value)?)),
     }
 }
 

@@ -3,7 +3,7 @@
 //! Each model of the element is asked once, for the property that it animates, and what counts of both properties is kept
 //! beside each other. A model whose iterations are over is asked no more: its sample is kept with the commit.
 
-ghost use Rattle.std.specs.Prelude.{◌≡◌, ◌<◌, ◌≤◌, unsigned_abs, All, IsTrue, IfOk, IfSome, None, Some, length, map, slice_get};
+ghost use Rattle.std.specs.Prelude.{◌≡◌, ◌<◌, ◌≤◌, unsigned_abs, All, IsTrue, IfOk, OnOk, IfSome, None, Some, length, map, slice_get};
 ghost use Rattle.anim_timeline.specs.Timelines.{IsTime};
 ghost use Rattle.micro_time.specs.declared.TheConstants.{LARGEST_LOCAL};
 ghost use Rattle.tree_commit.specs.Follows.{IsAmong};
@@ -95,89 +95,95 @@ fn sample_list<S: StartTable, E: EasingFunction>(
 {
     let mut samples = Samples::none();
     for i in 0..list.len() {
-        samples = samples_with(samples, sampled, list.at(i), time, starts, evaluator)?;
+        look_at_model(&mut samples, sampled, list.at(i), time, starts, evaluator)?;
     }
     Ok(samples)
 }
 
-// What counts once one more model of the element was looked at.
-fn samples_with<S: StartTable, E: EasingFunction>(
-    samples: Samples,
+// Counts what one more model of the element gives.
+fn look_at_model<S: StartTable, E: EasingFunction>(
+    samples: &mut Samples,
     sampled: &mut SampledCommit,
     model: &ModelSpec,
     time: u64,
     starts: &S,
     evaluator: &Evaluator<E>,
-) -> Result<Samples, AllocError>
+) -> Result<(), AllocError>
     requires there { IsAmong model.now sampled.old.tree.models }
     requires timeline_there { IsTrue (has_timeline sampled.old.tree model.now.timeline) }
     requires in_time { IsTime time }
     requires local { IfSome (S.starts starts.now model.now.id)
         (λ s. unsigned_abs (local_time sampled.old.tree time model.now s.start) ≤ LARGEST_LOCAL) }
-    ensures opacity { IfOk result (λ now.
-        now.opacity ≡ counts_with sampled.old.tree (S.starts starts.now) time Property.Opacity samples.opacity model.now) }
-    ensures transform { IfOk result (λ now.
-        now.transform ≡ counts_with sampled.old.tree (S.starts starts.now) time Property.Transform samples.transform model.now) }
+    ensures opacity { OnOk result (
+        samples.new.opacity ≡ counts_with sampled.old.tree (S.starts starts.now) time Property.Opacity samples.old.opacity model.now) }
+    ensures transform { OnOk result (
+        samples.new.transform ≡ counts_with sampled.old.tree (S.starts starts.now) time Property.Transform samples.old.transform model.now) }
     ensures same { sampled.new ≡ sampled.old }
 {
-    let Samples { opacity, transform } = samples;
     match model.property() {
-        Property::Opacity => Ok(Samples {
-            opacity: latest_with(opacity, sampled, model, time, starts, evaluator)?,
-            transform,
-        }),
-        Property::Transform => Ok(Samples {
-            opacity,
-            transform: latest_with(transform, sampled, model, time, starts, evaluator)?,
-        }),
+        Property::Opacity => count_model(
+            &mut samples.opacity,
+            sampled,
+            model,
+            time,
+            starts,
+            evaluator,
+        ),
+        Property::Transform => count_model(
+            &mut samples.transform,
+            sampled,
+            model,
+            time,
+            starts,
+            evaluator,
+        ),
     }
 }
 
-// What counts of the model's property once the model was looked at.
-fn latest_with<S: StartTable, E: EasingFunction>(
-    latest: Latest,
+// Counts what one more model gives for its property.
+fn count_model<S: StartTable, E: EasingFunction>(
+    latest: &mut Latest,
     sampled: &mut SampledCommit,
     model: &ModelSpec,
     time: u64,
     starts: &S,
     evaluator: &Evaluator<E>,
-) -> Result<Latest, AllocError>
+) -> Result<(), AllocError>
     requires there { IsAmong model.now sampled.old.tree.models }
     requires timeline_there { IsTrue (has_timeline sampled.old.tree model.now.timeline) }
     requires in_time { IsTime time }
     requires local { IfSome (S.starts starts.now model.now.id)
         (λ s. unsigned_abs (local_time sampled.old.tree time model.now s.start) ≤ LARGEST_LOCAL) }
-    ensures latest { IfOk result (λ now.
-        now ≡ beside latest (given_by sampled.old.tree time model.now (S.starts starts.now model.now.id))) }
+    ensures latest { OnOk result (
+        latest.new ≡ beside latest.old (given_by sampled.old.tree time model.now (S.starts starts.now model.now.id))) }
     ensures same { sampled.new ≡ sampled.old }
 {
     match starts.shown(model.id()) {
-        None => Ok(latest),
-        Some(shown) => latest_beside(latest, sampled, model, shown, time, evaluator),
+        None => Ok(()),
+        Some(shown) => count_value(latest, sampled, model, shown, time, evaluator),
     }
 }
 
-// What counts beside the value of a model that is shown so. The model is not asked where a later start counts already.
-fn latest_beside<E: EasingFunction>(
-    latest: Latest,
+// Counts the value of a model that is shown so. The model is not asked where a later start counts already.
+fn count_value<E: EasingFunction>(
+    latest: &mut Latest,
     sampled: &mut SampledCommit,
     model: &ModelSpec,
     shown: Shown,
     time: u64,
     evaluator: &Evaluator<E>,
-) -> Result<Latest, AllocError>
+) -> Result<(), AllocError>
     requires there { IsAmong model.now sampled.old.tree.models }
     requires timeline_there { IsTrue (has_timeline sampled.old.tree model.now.timeline) }
     requires in_time { IsTime time }
     requires local { unsigned_abs (local_time sampled.old.tree time model.now shown.start) ≤ LARGEST_LOCAL }
-    ensures latest { IfOk result (λ now. now ≡ beside latest (given_by sampled.old.tree time model.now (Some shown))) }
+    ensures latest { OnOk result (latest.new ≡ beside latest.old (given_by sampled.old.tree time model.now (Some shown))) }
     ensures same { sampled.new ≡ sampled.old }
 {
-    if !latest.is_older(shown.order) {
-        return Ok(latest);
+    if latest.is_older(shown.order) {
+        if let Some(sample) = sampled.sample(model, shown.start, time, evaluator)? {
+            latest.count(sample, shown.order);
+        }
     }
-    match sampled.sample(model, shown.start, time, evaluator)? {
-        None => Ok(latest),
-        Some(sample) => Ok(latest.with(sample, shown.order)),
-    }
+    Ok(())
 }

@@ -29,10 +29,13 @@ impl Drop for Commit {
     fn drop(self) {
         let Commit {
             number: _,
-            elements: _elements,
-            models: _models,
-            timelines: _timelines,
+            elements,
+            models,
+            timelines,
         } = self;
+        drop(elements);
+        drop(models);
+        drop(timelines);
     }
 }
 
@@ -84,11 +87,15 @@ impl Commit {
             made.value
             ≡ record { number = number; tree = tree_of elements.now.entries models.now.entries timelines.now.entries }) }
     {
+        let ((elements, models), timelines) = both(
+            both(elements.clone(), models.clone()),
+            timelines.clone(),
+        )?;
         let commit = Commit {
             number,
-            elements: elements.clone()?,
-            models: models.clone()?,
-            timelines: timelines.clone()?,
+            elements,
+            models,
+            timelines,
         };
         Ok(Arc::new(alloc, commit)?)
     }
@@ -194,4 +201,14 @@ fn since(time: i64, start: i64) -> i64
     ensures { result ≡ time -ℤ start }
 {
     time - start
+}
+
+// Both, or none where there was no memory for one.
+fn both<A: Drop, B: Drop>(
+    first: Result<A, AllocError>,
+    second: Result<B, AllocError>,
+) -> Result<(A, B), AllocError>
+    ensures { IfOk result (λ both. (first ≡ Ok both.0) × (second ≡ Ok both.1)) }
+{
+    Ok((first?, second?))
 }

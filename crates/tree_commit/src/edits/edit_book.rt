@@ -34,13 +34,17 @@ pub struct EditBook {
 impl Drop for EditBook {
     fn drop(self) {
         let EditBook {
-            elements: _elements,
+            elements,
             elements_added: _,
-            timelines: _timelines,
-            models: _models,
-            groups: _groups,
+            timelines,
+            models,
+            groups,
             commits: _,
         } = self;
+        drop(elements);
+        drop(timelines);
+        drop(models);
+        drop(groups);
     }
 }
 
@@ -70,14 +74,24 @@ impl EditBook {
     pub fn new(alloc: Global) -> Result<EditBook, AllocError>
         ensures { IfOk result (λ book. book ≡ new_book) }
     {
-        Ok(EditBook {
-            elements: IndexSet::with_capacity(alloc, MOST_ELEMENTS as usize)?,
+        let mut book = EditBook::empty(alloc);
+        book.elements.reserve(MOST_ELEMENTS as usize)?;
+        book.timelines.reserve(MOST_TIMELINES as usize)?;
+        Ok(book)
+    }
+
+    // The book before any edit, with no room.
+    fn empty(alloc: Global) -> EditBook
+        ensures { result ≡ new_book }
+    {
+        EditBook {
+            elements: IndexSet::new(alloc),
             elements_added: 0,
-            timelines: IndexSet::with_capacity(alloc, MOST_TIMELINES as usize)?,
+            timelines: IndexSet::new(alloc),
             models: IndexSet::new(alloc),
             groups: IndexMap::new(alloc),
             commits: 0,
-        })
+        }
     }
 
     /// How many commits there were.

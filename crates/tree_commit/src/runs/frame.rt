@@ -6,11 +6,20 @@ use std::marker::Model;
 /// What the compositor draws at a tick: a row for each element of the active commit, in the commit's order.
 ///
 /// A contract sees its tick, the number of its commit and its rows as plain data.
-#[derive(Drop)]
 pub struct Frame {
     time: u64,
     commit: u32,
     rows: Vec<FrameRow>,
+}
+
+impl Drop for Frame {
+    fn drop(self) {
+        let Frame {
+            time: _,
+            commit: _,
+            rows: _rows,
+        } = self;
+    }
 }
 
 impl Model for Frame {

@@ -6,9 +6,18 @@ use value_blend::Opacity;
 /// What one element shows at a tick.
 ///
 /// The list is shared: a row that no model animates points to the list of its commit.
-#[derive(Drop)]
 pub struct FrameRow {
     pub element: ElementId,
     pub opacity: Opacity,
     pub transform: Arc<TransformList>,
+}
+
+impl Drop for FrameRow {
+    fn drop(self) {
+        let FrameRow {
+            element: _,
+            opacity: _,
+            transform: _transform,
+        } = self;
+    }
 }

@@ -9,16 +9,29 @@ use std::marker::Model;
 /// What counts of one property of an element, of the samples seen so far: that of the model that started last.
 ///
 /// A contract sees the sample with its order, where one counts.
-#[derive(Drop)]
 pub struct Latest {
     given: Option<Given>,
 }
 
+impl Drop for Latest {
+    fn drop(self) {
+        let Latest { given: _given } = self;
+    }
+}
+
 /// A sample, and the index of the mark of its model's start.
-#[derive(Drop)]
 struct Given {
     sample: Sample,
     order: u32,
+}
+
+impl Drop for Given {
+    fn drop(self) {
+        let Given {
+            sample: _sample,
+            order: _,
+        } = self;
+    }
 }
 
 impl Model for Given {
@@ -57,17 +70,13 @@ impl Latest {
         }
     }
 
-    /// What counts with one more sample, whose model's start has this index among the marks. Of two samples of one order
-    /// the first counts.
-    pub fn with(self, sample: Sample, order: u32) -> Latest
-        ensures { result ≡ later_of self (record { value = sample_of sample; order = order }) }
+    /// Counts one more sample, whose model's start has this index among the marks. Of two samples of one order the first
+    /// counts.
+    pub fn count(&mut self, sample: Sample, order: u32)
+        ensures { self.new ≡ later_of self.old (record { value = sample_of sample; order = order }) }
     {
         if self.is_older(order) {
-            Latest {
-                given: Some(Given { sample, order }),
-            }
-        } else {
-            self
+            self.given = Some(Given { sample, order });
         }
     }
 

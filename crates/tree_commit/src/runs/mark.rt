@@ -1,7 +1,7 @@
 use anim_names::{ElementId, GroupId, ModelId, Property};
 
 /// What became of a keyframe model. The marks of a run form one list, and each of them is one event.
-#[derive(Clone, Copy, PartialEq, Eq)]
+#[derive(Clone, Copy)]
 pub enum Mark {
     /// The model started in the tick of time `at`, in microseconds. Its local time counts from `start`, in
     /// microseconds of its timeline, which may be negative. What it animates stands here too, since a model that

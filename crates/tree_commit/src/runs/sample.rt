@@ -1,8 +1,11 @@
-ghost use Rattle.std.specs.Prelude.{◌≡◌, IfOk};
+ghost use Rattle.std.specs.Prelude.{◌≡◌, ◌≤◌, unsigned_abs, option_map, IfOk};
+ghost use Rattle.keyframe_model.specs.Models.{model_value};
 ghost use Rattle.keyframe_model.specs.Views.{value_of};
+ghost use Rattle.micro_time.specs.declared.TheConstants.{LARGEST_LOCAL};
 ghost use Rattle.tree_commit.specs.Views.{sample_of};
 
-use keyframe_model::Value;
+use easing_fixed::{EasingFunction, Evaluator};
+use keyframe_model::{ModelSpec, Value};
 use std::alloc::{AllocError, Global};
 use std::sync::Arc;
 use transform_ops::TransformList;
@@ -11,10 +14,18 @@ use value_blend::Opacity;
 /// The value that a keyframe model gives at a tick.
 ///
 /// A list is shared: the rows that show it, and whoever keeps the sample for later ticks, point to one list.
-#[derive(Drop)]
 pub enum Sample {
     Opacity(Opacity),
     Transform(Arc<TransformList>),
+}
+
+impl Drop for Sample {
+    fn drop(self) {
+        match self {
+            Sample::Opacity(_) => {}
+            Sample::Transform(_list) => {}
+        }
+    }
 }
 
 impl Sample {
@@ -25,6 +36,22 @@ impl Sample {
         match value {
             Value::Opacity(opacity) => Ok(Sample::Opacity(opacity)),
             Value::Transform(list) => Ok(Sample::Transform(Arc::new(alloc, list)?)),
+        }
+    }
+
+    /// The value that a model gives at a local time, in microseconds, where it gives one.
+    pub fn at<E: EasingFunction>(
+        alloc: Global,
+        model: &ModelSpec,
+        local: i64,
+        evaluator: &Evaluator<E>,
+    ) -> Result<Option<Sample>, AllocError>
+        requires { unsigned_abs local ≤ LARGEST_LOCAL }
+        ensures { IfOk result (λ sample. option_map sample_of sample ≡ model_value model.now local) }
+    {
+        match model.value(local, evaluator)? {
+            None => Ok(None),
+            Some(value) => Ok(Some(Sample::of(alloc, value)?)),
         }
     }
 }

@@ -11,10 +11,18 @@ use transform_ops::TransformList;
 use value_blend::Opacity;
 
 /// What counts of each property of an element, of the models that were looked at so far.
-#[derive(Drop)]
 pub struct Samples {
     pub opacity: Latest,
     pub transform: Latest,
+}
+
+impl Drop for Samples {
+    fn drop(self) {
+        let Samples {
+            opacity: _opacity,
+            transform: _transform,
+        } = self;
+    }
 }
 
 impl Samples {

@@ -1,6 +1,6 @@
 //! What one element shows at a tick.
 
-ghost use Rattle.std.specs.Prelude.{◌≡◌, ◌<◌, ◌≤◌, unsigned_abs, IsTrue, IfOk, IfSome, length, map, option_map, slice_get, Some};
+ghost use Rattle.std.specs.Prelude.{◌≡◌, ◌<◌, ◌≤◌, unsigned_abs, IsTrue, IfOk, OnOk, IfSome, length, map, option_map, slice_get, Some};
 ghost use Rattle.anim_timeline.specs.Timelines.{IsTime};
 ghost use Rattle.keyframe_model.specs.Models.{model_value};
 ghost use Rattle.micro_time.specs.declared.TheConstants.{LARGEST_LOCAL};
@@ -60,67 +60,82 @@ fn sample_models<S: StartTable, E: EasingFunction>(
     let mut samples = Samples::none();
     for i in 0..commit.model_count() {
         let model = commit.model_at(i);
-        samples = samples_with(samples, commit, model, element, time, starts, evaluator)?;
+        look_at_model(
+            &mut samples,
+            commit,
+            model,
+            element,
+            time,
+            starts,
+            evaluator,
+        )?;
     }
     Ok(samples)
 }
 
-// What counts of the element's properties once one more model of the commit was looked at.
-fn samples_with<S: StartTable, E: EasingFunction>(
-    samples: Samples,
+// Counts what one more model of the commit gives for the element.
+fn look_at_model<S: StartTable, E: EasingFunction>(
+    samples: &mut Samples,
     commit: &Commit,
     model: &ModelSpec,
     element: ElementId,
     time: u64,
     starts: &S,
     evaluator: &Evaluator<E>,
-) -> Result<Samples, AllocError>
+) -> Result<(), AllocError>
     requires timeline_there { IsTrue (has_timeline commit.now.tree model.now.timeline) }
     requires in_time { IsTime time }
     requires local { IfSome (S.starts starts.now model.now.id)
         (λ s. unsigned_abs (local_time commit.now.tree time model.now s.start) ≤ LARGEST_LOCAL) }
-    ensures opacity { IfOk result (λ now.
-        now.opacity ≡ best_with commit.now.tree (S.starts starts.now) time element Property.Opacity samples.opacity model.now) }
-    ensures transform { IfOk result (λ now.
-        now.transform ≡ best_with commit.now.tree (S.starts starts.now) time element Property.Transform samples.transform model.now) }
+    ensures opacity { OnOk result (
+        samples.new.opacity ≡ best_with commit.now.tree (S.starts starts.now) time element Property.Opacity samples.old.opacity model.now) }
+    ensures transform { OnOk result (
+        samples.new.transform ≡ best_with commit.now.tree (S.starts starts.now) time element Property.Transform samples.old.transform model.now) }
 {
     if model.element() != element {
-        return Ok(samples);
+        return Ok(());
     }
-    let Samples { opacity, transform } = samples;
     match model.property() {
-        Property::Opacity => Ok(Samples {
-            opacity: latest_with(opacity, commit, model, time, starts, evaluator)?,
-            transform,
-        }),
-        Property::Transform => Ok(Samples {
-            opacity,
-            transform: latest_with(transform, commit, model, time, starts, evaluator)?,
-        }),
+        Property::Opacity => count_model(
+            &mut samples.opacity,
+            commit,
+            model,
+            time,
+            starts,
+            evaluator,
+        ),
+        Property::Transform => count_model(
+            &mut samples.transform,
+            commit,
+            model,
+            time,
+            starts,
+            evaluator,
+        ),
     }
 }
 
-// What counts of the model's property once the model was looked at.
-fn latest_with<S: StartTable, E: EasingFunction>(
-    latest: Latest,
+// Counts what one more model gives for its property.
+fn count_model<S: StartTable, E: EasingFunction>(
+    latest: &mut Latest,
     commit: &Commit,
     model: &ModelSpec,
     time: u64,
     starts: &S,
     evaluator: &Evaluator<E>,
-) -> Result<Latest, AllocError>
+) -> Result<(), AllocError>
     requires timeline_there { IsTrue (has_timeline commit.now.tree model.now.timeline) }
     requires in_time { IsTime time }
     requires local { IfSome (S.starts starts.now model.now.id)
         (λ s. unsigned_abs (local_time commit.now.tree time model.now s.start) ≤ LARGEST_LOCAL) }
-    ensures { IfOk result (λ now.
-        now ≡ beside latest (given_by commit.now.tree time model.now (S.starts starts.now model.now.id))) }
+    ensures { OnOk result (
+        latest.new ≡ beside latest.old (given_by commit.now.tree time model.now (S.starts starts.now model.now.id))) }
 {
     match starts.shown(model.id()) {
-        None => Ok(latest),
+        None => Ok(()),
         Some(shown) => {
             let local = commit.local_time(model, time, shown.start);
-            latest_beside(
+            count_value(
                 latest,
                 commit.allocator(),
                 model,
@@ -132,25 +147,24 @@ fn latest_with<S: StartTable, E: EasingFunction>(
     }
 }
 
-// What counts beside the value of a model at a local time, whose start has this order. It is not evaluated where a
-// later start counts already.
-fn latest_beside<E: EasingFunction>(
-    latest: Latest,
+// Counts the value of a model at a local time, whose start has this order. It is not evaluated where a later start
+// counts already.
+fn count_value<E: EasingFunction>(
+    latest: &mut Latest,
     alloc: Global,
     model: &ModelSpec,
     local: i64,
     order: u32,
     evaluator: &Evaluator<E>,
-) -> Result<Latest, AllocError>
+) -> Result<(), AllocError>
     requires { unsigned_abs local ≤ LARGEST_LOCAL }
-    ensures { IfOk result (λ now.
-        now ≡ beside latest (option_map (λ value. record { value = value; order = order }) (model_value model.now local))) }
+    ensures { OnOk result (
+        latest.new ≡ beside latest.old (option_map (λ value. record { value = value; order = order }) (model_value model.now local))) }
 {
-    if !latest.is_older(order) {
-        return Ok(latest);
+    if latest.is_older(order) {
+        if let Some(sample) = Sample::at(alloc, model, local, evaluator)? {
+            latest.count(sample, order);
+        }
     }
-    match model.value(local, evaluator)? {
-        None => Ok(latest),
-        Some(value) => Ok(latest.with(Sample::of(alloc, value)?, order)),
-    }
+    Ok(())
 }

@@ -10,18 +10,18 @@ use Rattle.active_tree.specs.Samples.{counts_with}
 use Rattle.active_tree.proofs.CountLemmas.{counts-more}
 use Rattle.active_tree.proofs.sampling.sample_list.Goals as goal
 
-pub samples_with-requires-clause-there : goal.samples_with-requires-clause-there
-samples_with-requires-clause-there g c =
+pub look_at_model-requires-clause-there : goal.look_at_model-requires-clause-there
+look_at_model-requires-clause-there g c =
     subst (λ (t : Committed). IsAmong c.at.result.now t.tree.models) (sym c.loop-i.invariant.0)
     (each-found (λ model. IsAmong model c.args.sampled.now.tree.models) c.at.result.now c.args.list.now c.loop-i.i c.requires.there c.at.ensures)
 
-pub samples_with-requires-clause-timeline_there : goal.samples_with-requires-clause-timeline_there
-samples_with-requires-clause-timeline_there g c =
+pub look_at_model-requires-clause-timeline_there : goal.look_at_model-requires-clause-timeline_there
+look_at_model-requires-clause-timeline_there g c =
     subst (λ (t : Committed). IsTrue (has_timeline t.tree c.at.result.now.timeline)) (sym c.loop-i.invariant.0)
     (each-found (λ model. IsTrue (has_timeline c.args.sampled.now.tree model.timeline)) c.at.result.now c.args.list.now c.loop-i.i c.requires.timelines_there c.at.ensures)
 
-pub samples_with-requires-clause-local : goal.samples_with-requires-clause-local
-samples_with-requires-clause-local g c =
+pub look_at_model-requires-clause-local : goal.look_at_model-requires-clause-local
+look_at_model-requires-clause-local g c =
     let shown = g.S.StartTable.starts c.args.starts.now in
     subst (λ (t : Committed). IfSome (shown c.at.result.now.id) (λ s. unsigned_abs (local_time t.tree c.args.time c.at.result.now s.start) ≤ LARGEST_LOCAL))
     (sym c.loop-i.invariant.0)
@@ -34,9 +34,9 @@ loop-i-preserved g c =
     let shown = g.S.StartTable.starts c.args.starts.now in
     let so_far = c.loop-i.invariant in
     let model = c.at.result.now in
-    let opacity = c.in_ok-samples.ensures.opacity ∙ ap (λ (t : Committed). counts_with t.tree shown c.args.time Opacity c.loop-i.samples.opacity model) so_far.0 in
-    let transform = c.in_ok-samples.ensures.transform ∙ ap (λ (t : Committed). counts_with t.tree shown c.args.time Transform c.loop-i.samples.transform model) so_far.0 in (
-      c.samples_with.ensures.same ∙ so_far.0,
+    let opacity = c.in_ok-look_at_model.ensures.opacity ∙ ap (λ (t : Committed). counts_with t.tree shown c.args.time Opacity c.loop-i.samples.opacity model) so_far.0 in
+    let transform = c.in_ok-look_at_model.ensures.transform ∙ ap (λ (t : Committed). counts_with t.tree shown c.args.time Transform c.loop-i.samples.transform model) so_far.0 in (
+      c.look_at_model.ensures.same ∙ so_far.0,
       counts-more tree shown c.args.time Opacity c.args.list.now c.loop-i.i model _ _ c.at.ensures opacity so_far.1,
       counts-more tree shown c.args.time Transform c.args.list.now c.loop-i.i model _ _ c.at.ensures transform so_far.2,
     )
