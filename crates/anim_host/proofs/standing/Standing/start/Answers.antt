@@ -2,10 +2,11 @@ use Rattle.std.proofs.Common.{◌≡◌, ◌≢◌, ℕ, ◌∷◌, [], ◌++◌
 use Rattle.std.specs.Prelude.{option_map, ℤ}
 use Rattle.keyframe_model.specs.Models.{property_of}
 use Rattle.tree_commit.specs.declared.runs.mark.Mark.TheVariants.{Started}
-use Rattle.host_tables.specs.MarkLists.{Marked}
+use Rattle.host_tables.specs.MarkLists.{Marked, with_marks}
 use Rattle.host_tables.specs.Groups.{group_at}
 use Rattle.host_tables.specs.Rows.{advanced_row, marked_at, marked_row, row_at}
 use Rattle.host_tables.specs.States.{models_of}
+use Rattle.anim_host.specs.Standing.{Stood, with_new}
 use Rattle.anim_host.proofs.BlockLemmas.{free-or-own, start-blocks}
 use Rattle.host_tables.proofs.ElementLemmas.{presence-same}
 use Rattle.anim_host.proofs.FitLemmas.{fits-next, follows-more}
@@ -84,3 +85,29 @@ invariant_of-self c =
       fits = fits-next active.tree.models marks mark model differ before.fits there (refl, refl, refl, refl);
       follows = follows-more active.tree pending marks mark model before.follows there (refl, refl, refl, refl);
     })
+
+pub next_order-order-requires : goal.next_order-order-requires
+next_order-order-requires c = rw (← c.self.view_is) at c.requires.room
+
+pub push-requires-clause-room : goal.push-requires-clause-room
+push-requires-clause-room c = rw (← c.self.view_is) at c.requires.room
+
+pub push-requires-clause-within : goal.push-requires-clause-within
+push-requires-clause-within c =
+    let model = c.args.model.now in
+    let is_mark = c.started-mark.ensures ∙ ap (λ (z : ℤ). Started model.id model.group model.element (property_of model) c.args.at z) (to_z-of_z c.ranges.start) in
+    rw is_mark c.requires.within
+
+pub returns : goal.returns
+returns c =
+    let model = c.args.model.now in
+    let mark = Started model.id model.group model.element (property_of model) c.args.at c.args.start in
+    let is_mark : c.started-mark.result ≡ mark = c.started-mark.ensures ∙ ap (λ (z : ℤ). Started model.id model.group model.element (property_of model) c.args.at z) (to_z-of_z c.ranges.start) in
+    let stood : Stood = record {
+      active = c.self.inside.active.value;
+      pending = option_map (λ commit. commit.value) c.self.inside.pending;
+      list = c.self.inside.marks;
+      last_tick = c.self.inside.last_tick;
+    } in
+    ap (λ (list : Marked). record stood { list = list }) (c.push.ensures ∙ ap (λ m. with_marks c.self.inside.marks (m ∷ [])) is_mark)
+    ∙ ap (λ (s : Stood). with_new s (mark ∷ [])) c.self.view_is
