@@ -1,4 +1,4 @@
-use Rattle.std.proofs.Common.{◌≡◌, ◌≤◌, length, List, [], ℕ, None, Option, Some, sym, ap, subst, ◌∙◌}
+use Rattle.std.proofs.Common.{◌≡◌, ◌≤◌, length, List, [], ℕ, None, Option, sym, ap, subst, ◌∙◌}
 use Rattle.std.specs.Prelude.{option_map, IfSome}
 use Rattle.tree_commit.specs.Trees.{Committed}
 use Rattle.tree_commit.specs.Follows.{Follows}
@@ -9,8 +9,6 @@ use Rattle.host_tables.specs.Rows.{marked_row, says_over}
 use Rattle.host_tables.specs.States.{models_of, row_for}
 use Rattle.host_tables.proofs.ElementLemmas.{blocks-same, presence-announced, presence-same}
 use Rattle.host_tables.proofs.StateLemmas.{follows-waits}
-use Rattle.tree_commit.proofs.BookLemmas.{on_err}
-use Rattle.anim_host.specs.Standing.{Stood}
 use Rattle.anim_host.proofs.standing.Standing.push_commit.Goals as goal
 
 pub invariant_of-self-in_err-reserve-2 : goal.invariant_of-self-in_err-reserve-2
@@ -89,29 +87,3 @@ invariant_of-self-2 c =
       fits = c.self.invariant.fits;
       follows = follows;
     })
-
-pub join_pending-requires : goal.join_pending-requires
-join_pending-requires c = record { room = rw c.deref-5.ensures (rw (c.model_count.ensures.count, c.deref.ensures) at c.in_ok-reserve.ensures.room) }
-
-pub returns-in_err-reserve-4-clause-err : goal.returns-in_err-reserve-4-clause-err
-returns-in_err-reserve-4-clause-err c =
-    let stood : Stood = record {
-      active = c.self.inside.active.value;
-      pending = option_map (λ commit. commit.value) c.self.inside.pending;
-      list = c.self.inside.marks;
-      last_tick = c.self.inside.last_tick;
-    } in
-    on_err c.from_residual-in_err-reserve-4.result (ap (λ (list : Marked). record stood { list = list }) c.in_err-reserve-4.ensures.err ∙ c.self.view_is)
-
-pub returns-clause-ok : goal.returns-clause-ok
-returns-clause-ok c =
-    (λ i. record {
-      active = c.self.inside.active.value;
-      pending = Some (c.in_ok-commit.ensures.cases i);
-      list = c.reserve-4.ensures.same i;
-      last_tick = c.self.inside.last_tick;
-    })
-    ∙ ap (λ (s : Stood). record s { pending = Some c.args.commit.now.value; list = record s.list { room = c.reserve-4.new.self.room } }) c.self.view_is
-
-pub returns-clause-room : goal.returns-clause-room
-returns-clause-room c = rw (c.model_count-3.ensures.count, c.deref-4.ensures) at c.in_ok-reserve-4.ensures.room
