@@ -1,7 +1,7 @@
 -- When a commit agrees with the one before.
 use Rattle.std.proofs.Common.{◌≡◌, sym, subst}
 use Rattle.std.proofs.lemmas.Bool.{false≢true}
-use Rattle.tree_commit.specs.Follows.{TreesAgree}
+use Rattle.run_rules.specs.Follows.{TreesAgree}
 use Rattle.tree_commit.specs.Trees.{Committed, TreeLists, empty_commit}
 
 -- the empty commit has nothing that could differ

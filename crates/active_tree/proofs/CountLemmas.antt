@@ -7,12 +7,13 @@ use Rattle.std.proofs.lemmas.List.Elements.{All-filter}
 use Rattle.std.proofs.lemmas.List.Sums.{fold-append}
 use Rattle.std.proofs.lemmas.Option.{slice_get_within, get_or_from_slice_get}
 use Rattle.anim_names.specs.declared.property.Property.{Property}
-use Rattle.keyframe_model.specs.Models.{Spec, property_of, same_property}
-use Rattle.tree_commit.specs.declared.runs.shown.Shown.{Shown}
+use Rattle.anim_names.specs.Properties.{is_property}
+use Rattle.keyframe_model.specs.Models.{Spec, property_of}
+use Rattle.tree_commit.specs.declared.shown.Shown.{Shown}
 use Rattle.tree_commit.specs.Trees.{TreeLists}
-use Rattle.tree_commit.specs.Frames.{Given, animated_value, given_by}
-use Rattle.tree_commit.specs.Samples.{beside}
-use Rattle.tree_commit.proofs.SamplingLemmas.{best_of_all, best_of_all-cons}
+use Rattle.run_rules.specs.Frames.{Given, animated_value, given_by}
+use Rattle.element_samples.specs.Samples.{beside}
+use Rattle.element_samples.proofs.SamplingLemmas.{best_of_all, best_of_all-cons}
 use Rattle.active_tree.specs.ElementModels.{models_on}
 use Rattle.active_tree.specs.Samples.{counts_of, counts_with}
 
@@ -52,7 +53,7 @@ module _ (tree : TreeLists) (shown : ℕ → Option Shown) (tick : ℕ) where
   all-count element property best (model ∷ models) =
       elim (element == model.element) as (λ b.
       fold (counts_with tree shown tick property) best (cond b (model ∷ models_on element models) (models_on element models))
-      ≡ best_of_all tree shown tick element property (if b && same_property property (property_of model) then beside best (given_by tree tick model (shown model.id)) else best) models) [
+      ≡ best_of_all tree shown tick element property (if b && is_property property (property_of model) then beside best (given_by tree tick model (shown model.id)) else best) models) [
         | true ↦ all-count element property (counts_with tree shown tick property best model) models
         | false ↦ all-count element property best models
       ]

@@ -4,39 +4,45 @@ use Rattle.std.specs.Prelude.{ℤ, ◌-ℤ◌, ◌==◌}
 use Rattle.std.specs.List.{IsDistinct}
 use Rattle.std.specs.Map.{lookup}
 use Rattle.std.specs.Ordering.{int_eq}
-use Rattle.std.proofs.lemmas.Bool.{true≢false, false≢true, eqb-true, cases_Bool}
+use Rattle.std.proofs.lemmas.Bool.{true≢false, false≢true, and_parts, eqb-true, cases_Bool}
 use Rattle.std.proofs.lemmas.Bool.Decides.{eqb_tells, Decides-int_eq}
 use Rattle.std.proofs.lemmas.Option.{IfSome_then, MatchOption-from_none}
 use Rattle.anim_timeline.specs.Timelines.{timeline_time}
 use Rattle.keyframe_model.specs.Models.{Spec, PropertyValue, model_value}
 use Rattle.micro_time.specs.Timings.{is_done}
-use Rattle.tree_commit.specs.Follows.{IsAmong, TreesAgree}
+use Rattle.anim_names.specs.Lists.{IsAmong}
+use Rattle.run_rules.specs.Follows.{TreesAgree}
 use Rattle.tree_commit.specs.Tables.{HasAllTimelines, has_timeline}
+use Rattle.tree_commit.specs.declared.shown.Shown.{Shown}
 use Rattle.tree_commit.specs.Trees.{TreeLists, has_model, local_time}
 use Rattle.tree_commit.proofs.Among.{among-has, any-cases, each-among, one-model}
 use Rattle.tree_commit.proofs.OverLemmas.{value-later}
-use Rattle.active_tree.specs.Kept.{AreKeptOf, IsKeptOf, IsRightOf, KeptSample}
+use Rattle.active_tree.specs.Kept.{AreKeptOf, IsKeptOf, IsRightOf, KeptSample, is_shown}
 
 -- ---- a sample is kept
 
--- two starts that the test tells to be one
-pub same-start : (a b : ℤ) → int_eq a b ≡ true → a ≡ b
-same-start a b is = (Decides-int_eq a b).0 is
+-- what the test tells to be the same is the same
+pub same-shown : (one other : Shown) → is_shown one other ≡ true → one ≡ other
+same-shown one other is =
+    let parts = and_parts (int_eq one.start other.start) (nat_eq one.order other.order) is in
+    let start = (Decides-int_eq one.start other.start).0 parts.0 in
+    let order = eqb-true one.order other.order parts.1 in
+    λ i. record { start = start i; order = order i }
 
 -- what a model that is over gives at a tick may be kept
-pub kept-of-over : (tree : TreeLists) (model : Spec) (id : ℕ) (start local : ℤ) (tick : ℕ) (value : Option PropertyValue)
+pub kept-of-over : (tree : TreeLists) (model : Spec) (id : ℕ) (shown : Shown) (local : ℤ) (tick : ℕ) (value : Option PropertyValue)
     → IsDistinct nat_eq (map (λ m. m.id) tree.models)
     → IsAmong model tree.models
     → id ≡ model.id
-    → local ≡ local_time tree tick model start
+    → local ≡ local_time tree tick model shown
     → is_done model.timing local ≡ true
     → value ≡ model_value model local
-    → IsKeptOf tree id (record { start = start; since = tick; value = value })
-kept-of-over tree model id start local tick value differ there is_id is_local over is = (
+    → IsKeptOf tree id (record { shown = shown; since = tick; value = value })
+kept-of-over tree model id shown local tick value differ there is_id is_local over is = (
   ap (λ i. has_model tree i) is_id ∙ among-has model tree.models there,
   λ twin also same later after.
-      subst (λ (m : Spec). model_value m (local_time tree later m start) ≡ value) (one-model tree.models model twin differ there also (sym is_id ∙ same))
-      (value-later tree model start tick later after (ap (is_done model.timing) (sym is_local) ∙ over) ∙ sym (is ∙ ap (model_value model) is_local)),
+      subst (λ (m : Spec). model_value m (local_time tree later m shown) ≡ value) (one-model tree.models model twin differ there also (sym is_id ∙ same))
+      (value-later tree model shown tick later after (ap (is_done model.timing) (sym is_local) ∙ over) ∙ sym (is ∙ ap (model_value model) is_local)),
 )
 
 -- the samples with one more, under its id
@@ -98,7 +104,7 @@ right-after old new id kept agree old_clocks new_clocks is model there is_id =
     let new_clock = each-among (λ m. IsTrue (has_timeline new m.timeline)) model new.models new_clocks there in
     let origin = agree.one_origin model.timeline old_clock new_clock in
     let right : IsRightOf old model kept = subst (λ (m : Spec). IsRightOf old m kept) one (is.1 before found.1 was_id) in
-    λ tick after. ap (λ o. model_value model (timeline_time o tick -ℤ kept.start)) origin ∙ right tick after
+    λ tick after. ap (λ o. model_value model (timeline_time o tick -ℤ kept.shown.start)) origin ∙ right tick after
 
 -- the samples of the models that the new commit has too
 pub kept-after : (old new : TreeLists) (es kept : List (ℕ × KeptSample))

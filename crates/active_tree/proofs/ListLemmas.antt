@@ -1,5 +1,5 @@
 -- How the list of an element's models is made.
-use Rattle.std.proofs.Common.{◌≡◌, ◌≢◌, ℕ, ◌+◌, ◌==◌, nat_eq, Bool, true, false, cond, if◌then◌else◌, List, [], ◌∷◌, ◌++◌, take, Option, Some, refl, sym, ap, ◌∙◌, inl, inr}
+use Rattle.std.proofs.Common.{◌≡◌, ℕ, ◌+◌, ◌==◌, nat_eq, Bool, true, false, cond, if◌then◌else◌, List, [], ◌∷◌, ◌++◌, take, Option, Some, refl, sym, ap, ◌∙◌, inl, inr}
 use Rattle.std.specs.Prelude.{slice_get, unwrap_or}
 use Rattle.std.specs.Map.{lookup}
 use Rattle.std.proofs.lemmas.List.{append-nil, take_more}
@@ -8,6 +8,7 @@ use Rattle.std.proofs.lemmas.Option.{slice_get_within, get_or_from_slice_get}
 use Rattle.std.proofs.lemmas.Bool.Decides.{eqb_tells}
 use Rattle.keyframe_model.specs.Models.{Spec}
 use Rattle.active_tree.specs.ElementModels.{AreListsOf, listed_for, models_on}
+use Rattle.tree_commit.proofs.Among.{apart}
 
 -- ---- one more model
 
@@ -19,9 +20,6 @@ IsAdded model old new =
 -- the lists are as they were, but for that of the key
 abbrev pub IsWritten : ℕ → List Spec → List (ℕ × List Spec) → List (ℕ × List Spec) → Type 0
 IsWritten key list old new = (e : ℕ) → lookup (nat_eq e) new ≡ cond (nat_eq key e) (Some list) (lookup (nat_eq e) old)
-
-apart : (a b : ℕ) → a ≢ b → nat_eq a b ≡ false
-apart a b differ = elim (eqb_tells a b) [ inl t ↦ absurd (differ t.1) | inr f ↦ f.0 ]
 
 -- a list with the model last was written under its element
 pub added-written : (model : Spec) (key : ℕ) (list : List Spec) (old new : List (ℕ × List Spec))

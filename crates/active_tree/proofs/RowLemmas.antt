@@ -3,11 +3,13 @@ use Rattle.std.proofs.Common.{◌≡◌, ℕ, Option, map, List, [], ◌∷◌, 
 use Rattle.std.specs.Prelude.{option_map, slice_get}
 use Rattle.std.proofs.lemmas.Option.{slice_get_within, get_or_from_slice_get, slice_get-map}
 use Rattle.std.proofs.lemmas.List.{take_more}
-use Rattle.anim_names.specs.declared.property.Property.TheVariants.{Opacity, Transform}
+use Rattle.anim_names.specs.declared.property.Property.{Property}
+use Rattle.anim_names.specs.declared.property.TheConstants.{PROPERTIES}
 use Rattle.keyframe_model.specs.Models.{PropertyValue}
-use Rattle.tree_commit.specs.declared.runs.shown.Shown.{Shown}
-use Rattle.tree_commit.specs.Frames.{DrawnRow, animated_value, opacity_or, row_of, transform_or}
-use Rattle.tree_commit.specs.Trees.{Element, TreeLists}
+use Rattle.tree_commit.specs.declared.shown.Shown.{Shown}
+use Rattle.run_rules.specs.Frames.{DrawnRow, animated_value, row_of, shown_with}
+use Rattle.tree_commit.specs.Trees.{Element, Look, TreeLists}
+use Rattle.element_samples.proofs.SamplingLemmas.{shown_after-same}
 
 -- one more row
 pub take-next : (all : List DrawnRow) (index : ℕ) (rows : List DrawnRow) (row : DrawnRow)
@@ -20,19 +22,14 @@ take-next all index rows row front there =
     ∙ sym (take_more all index row (slice_get_within all index row there))
 
 -- the row of an element shows its animated values, else the element's own
-pub row-shown : (tree : TreeLists) (shown : ℕ → Option Shown) (tick place id : ℕ) (element : Element) (row : DrawnRow) (opacity transform : Option PropertyValue)
-    → slice_get tree.elements place ≡ Some element
-    → id ≡ element.id
-    → opacity ≡ animated_value tree shown tick id Opacity
-    → transform ≡ animated_value tree shown tick id Transform
-    → row ≡ record { element = id; opacity = opacity_or element.look.opacity opacity; transform = transform_or element.look.transform transform }
-    → slice_get (map (row_of tree shown tick) tree.elements) place ≡ Some row
+pub row-shown : (tree : TreeLists) (shown : ℕ → Option Shown) (tick index : ℕ) (element : Element) (animated : Property → Option PropertyValue) (look : Look)
+    → slice_get tree.elements index ≡ Some element
+    → ((property : Property) → animated property ≡ animated_value tree shown tick element.id property)
+    → look ≡ shown_with animated element.look
+    → slice_get (map (row_of tree shown tick) tree.elements) index ≡ Some (record { element = element.id; look = look })
 unfolding row_of
-row-shown tree shown tick place id element row opacity transform found is_id is_opacity is_transform is =
-    let op = is_opacity ∙ ap (λ e. animated_value tree shown tick e Opacity) is_id in
-    let tr = is_transform ∙ ap (λ e. animated_value tree shown tick e Transform) is_id in
-    let drawn : row ≡ row_of tree shown tick element =
-    is ∙ (λ j. record { element = is_id j; opacity = opacity_or element.look.opacity (op j); transform = transform_or element.look.transform (tr j) }) in
-    slice_get-map (row_of tree shown tick) tree.elements place
+row-shown tree shown tick index element animated look found same is =
+    slice_get-map (row_of tree shown tick) tree.elements index
     ∙ ap (option_map (row_of tree shown tick)) found
-    ∙ ap Some (sym drawn)
+    ∙ ap (λ l. Some (record { element = element.id; look = l }))
+    (sym (is ∙ shown_after-same animated (animated_value tree shown tick element.id) same element.look PROPERTIES))

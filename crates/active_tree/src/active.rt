@@ -1,19 +1,23 @@
+//! The tree from which the compositor draws: its commit may be replaced, and a frame is asked of it. What starts,
+//! finishes or is aborted it reads off a table of starts.
+
 ghost use Rattle.std.specs.Prelude.{◌≡◌, IfOk, map};
 ghost use Rattle.anim_timeline.specs.Timelines.{IsTime};
-ghost use Rattle.tree_commit.specs.Follows.{TreesAgree};
-ghost use Rattle.tree_commit.specs.Frames.{LocalTimesFit, frame_by, row_of};
+ghost use Rattle.run_rules.specs.Follows.{TreesAgree};
+ghost use Rattle.run_rules.specs.Frames.{LocalTimesFit, frame_by, row_of};
 ghost use Rattle.tree_commit.specs.Trees.{empty_commit};
-ghost use Rattle.tree_commit.specs.Views.{drawn_row_of};
+ghost use Rattle.element_samples.specs.Views.{drawn_row_of};
 ghost use Rattle.active_tree.specs.ElementModels.{AreListsOf};
 
 use crate::element_models::ElementModels;
 use crate::sampled_commit::SampledCommit;
 use crate::sampling::sample_row;
 use easing_fixed::{EasingFunction, Evaluator};
+use element_samples::{Frame, FrameRow, StartTable};
 use std::alloc::{AllocError, Global};
 use std::marker::Model;
 use std::sync::Arc;
-use tree_commit::{Commit, Frame, FrameRow, StartTable};
+use tree_commit::Commit;
 
 /// The commit that is drawn.
 ///

@@ -1,3 +1,6 @@
+//! A commit's models sorted by the element that they animate, so that a frame looks only at those of its elements. No
+//! model is evaluated here.
+
 ghost use Rattle.std.specs.Prelude.{◌≡◌, ℕ, ◌==◌, [], ◌∷◌, ◌++◌, nat_eq, if◌then◌else◌, unwrap_or, IfOk, IsSome, OnOk, None};
 ghost use Rattle.std.specs.Map.{lookup};
 ghost use Rattle.std.specs.Option.{option_copied};

@@ -1,3 +1,6 @@
+//! A list of models that are shared with their commit. It takes memory only as it grows, and leaves models as they
+//! are.
+
 ghost use Rattle.std.specs.Prelude.{◌≡◌, ◌<◌, [], ◌∷◌, ◌++◌, length, slice_get, OnOk, OnErr, Some};
 
 use keyframe_model::ModelSpec;

@@ -1,22 +1,25 @@
+//! The drawn commit with the samples of its models whose iterations are over. A sample serves all later frames, until
+//! a commit without its model is taken.
+
 ghost use Rattle.std.specs.Prelude.{◌≡◌, ◌≤◌, ◌&&◌, nat_le, unsigned_abs, IfOk, IsTrue, option_map};
-ghost use Rattle.std.specs.Ordering.{int_eq};
 ghost use Rattle.anim_timeline.specs.Timelines.{IsTime};
 ghost use Rattle.keyframe_model.specs.Models.{model_value};
 ghost use Rattle.micro_time.specs.declared.TheConstants.{LARGEST_LOCAL};
-ghost use Rattle.tree_commit.specs.Follows.{IsAmong, TreesAgree};
+ghost use Rattle.anim_names.specs.Lists.{IsAmong};
+ghost use Rattle.run_rules.specs.Follows.{TreesAgree};
 ghost use Rattle.tree_commit.specs.Tables.{has_timeline};
 ghost use Rattle.tree_commit.specs.Trees.{empty_commit, has_model, local_time};
-ghost use Rattle.tree_commit.specs.Views.{sample_of};
-ghost use Rattle.active_tree.specs.Kept.{IsKeptOf};
+ghost use Rattle.keyframe_model.specs.Views.{shared_value_of};
+ghost use Rattle.active_tree.specs.Kept.{IsKeptOf, is_shown};
 
 use anim_names::ModelId;
 use easing_fixed::{EasingFunction, Evaluator};
 use indexmap::IndexMap;
-use keyframe_model::ModelSpec;
+use keyframe_model::{ModelSpec, SharedValue};
 use std::alloc::{AllocError, Global};
 use std::marker::Model;
 use std::sync::Arc;
-use tree_commit::{Commit, Sample};
+use tree_commit::{Commit, Shown};
 
 /// The commit that is drawn, with the samples that are kept of its models.
 ///
@@ -31,11 +34,11 @@ pub(crate) struct SampledCommit {
 /// What a model gives from a tick on. No value is kept too.
 #[derive(Drop)]
 struct Kept {
-    /// The start by which it was sampled, in microseconds of its timeline.
-    start: i64,
+    /// What was shown of it as it was sampled.
+    shown: Shown,
     /// The tick from which on the sample is right, in microseconds.
     since: u64,
-    sample: Option<Sample>,
+    sample: Option<SharedValue>,
 }
 
 impl Drop for SampledCommit {
@@ -51,11 +54,11 @@ impl Drop for SampledCommit {
 impl Model for Kept {
     ghost use Rattle.std.specs.Prelude.{option_map};
     ghost use Rattle.active_tree.specs.Kept.{KeptSample};
-    ghost use Rattle.tree_commit.specs.Views.{sample_of};
+    ghost use Rattle.keyframe_model.specs.Views.{shared_value_of};
 
     ghost Value = { KeptSample };
 
-    ghost view = { λ k. record { start = k.start; since = k.since; value = option_map sample_of k.sample } };
+    ghost view = { λ k. record { shown = k.shown; since = k.since; value = option_map shared_value_of k.sample } };
 }
 
 impl Model for SampledCommit {
@@ -70,16 +73,16 @@ impl Model for SampledCommit {
 }
 
 impl Kept {
-    // Whether the sample is the model's at the tick, if the model started at this time of its timeline.
-    fn is_right(&self, start: i64, time: u64) -> bool
-        ensures { result ≡ (int_eq self.now.start start && nat_le self.now.since time) }
+    // Whether the sample is the model's at the tick, where this is shown of the model.
+    fn is_right(&self, shown: Shown, time: u64) -> bool
+        ensures { result ≡ (is_shown self.now.shown shown && nat_le self.now.since time) }
     {
-        self.start == start && self.since <= time
+        is_shown(self.shown, shown) && self.since <= time
     }
 
     // The sample again, with the same list.
-    fn sample(&self) -> Result<Option<Sample>, AllocError>
-        ensures { IfOk result (λ sample. option_map sample_of sample ≡ self.now.value) }
+    fn sample(&self) -> Result<Option<SharedValue>, AllocError>
+        ensures { IfOk result (λ sample. option_map shared_value_of sample ≡ self.now.value) }
     {
         shared(&self.sample)
     }
@@ -119,26 +122,25 @@ impl SampledCommit {
         self.commit = commit;
     }
 
-    /// The value at a tick, in microseconds, of a model that started at this time of its timeline; none where it gives
-    /// none. It is the kept sample where one is right, else the model is evaluated.
+    /// The value at a tick, in microseconds, of a model of which this is shown; none where it gives none. It is the kept sample where one is right, else the model is evaluated.
     pub(crate) fn sample<E: EasingFunction>(
         &mut self,
         model: &ModelSpec,
-        start: i64,
+        shown: Shown,
         time: u64,
         evaluator: &Evaluator<E>,
-    ) -> Result<Option<Sample>, AllocError>
+    ) -> Result<Option<SharedValue>, AllocError>
         requires there { IsAmong model.now self.old.tree.models }
         requires timeline_there { IsTrue (has_timeline self.old.tree model.now.timeline) }
         requires in_time { IsTime time }
-        requires local { unsigned_abs (local_time self.old.tree time model.now start) ≤ LARGEST_LOCAL }
+        requires local { unsigned_abs (local_time self.old.tree time model.now shown) ≤ LARGEST_LOCAL }
         ensures value { IfOk result (λ sample.
-            option_map sample_of sample ≡ model_value model.now (local_time self.old.tree time model.now start)) }
+            option_map shared_value_of sample ≡ model_value model.now (local_time self.old.tree time model.now shown)) }
         ensures same { self.new ≡ self.old }
     {
         match self.kept.get(&model.id()) {
-            Some(kept) if kept.is_right(start, time) => kept.sample(),
-            _ => self.evaluate(model, start, time, evaluator),
+            Some(kept) if kept.is_right(shown, time) => kept.sample(),
+            _ => self.evaluate(model, shown, time, evaluator),
         }
     }
 
@@ -146,21 +148,21 @@ impl SampledCommit {
     fn evaluate<E: EasingFunction>(
         &mut self,
         model: &ModelSpec,
-        start: i64,
+        shown: Shown,
         time: u64,
         evaluator: &Evaluator<E>,
-    ) -> Result<Option<Sample>, AllocError>
+    ) -> Result<Option<SharedValue>, AllocError>
         requires there { IsAmong model.now self.old.tree.models }
         requires timeline_there { IsTrue (has_timeline self.old.tree model.now.timeline) }
         requires in_time { IsTime time }
-        requires local { unsigned_abs (local_time self.old.tree time model.now start) ≤ LARGEST_LOCAL }
+        requires local { unsigned_abs (local_time self.old.tree time model.now shown) ≤ LARGEST_LOCAL }
         ensures value { IfOk result (λ sample.
-            option_map sample_of sample ≡ model_value model.now (local_time self.old.tree time model.now start)) }
+            option_map shared_value_of sample ≡ model_value model.now (local_time self.old.tree time model.now shown)) }
         ensures same { self.new ≡ self.old }
     {
-        let local = self.commit.local_time(model, time, start);
-        let sample = Sample::at(self.alloc, model, local, evaluator)?;
-        self.keep_if_over(model, start, time, local, &sample)?;
+        let local = self.commit.local_time(model, time, shown);
+        let sample = SharedValue::at(self.alloc, model, local, evaluator)?;
+        self.keep_if_over(model, shown, time, local, &sample)?;
         Ok(sample)
     }
 
@@ -168,20 +170,20 @@ impl SampledCommit {
     fn keep_if_over(
         &mut self,
         model: &ModelSpec,
-        start: i64,
+        shown: Shown,
         time: u64,
         local: i64,
-        sample: &Option<Sample>,
+        sample: &Option<SharedValue>,
     ) -> Result<(), AllocError>
         requires there { IsAmong model.now self.old.tree.models }
-        requires local { local ≡ local_time self.old.tree time model.now start }
+        requires local { local ≡ local_time self.old.tree time model.now shown }
         requires within { unsigned_abs local ≤ LARGEST_LOCAL }
-        requires value { option_map sample_of sample.now ≡ model_value model.now local }
+        requires value { option_map shared_value_of sample.now ≡ model_value model.now local }
         ensures { self.new ≡ self.old }
     {
         let _ = self.commit.model_count();
         if model.is_done(local) {
-            self.keep(model.id(), start, time, sample)?;
+            self.keep(model.id(), shown, time, sample)?;
         }
         Ok(())
     }
@@ -190,16 +192,16 @@ impl SampledCommit {
     fn keep(
         &mut self,
         id: ModelId,
-        start: i64,
+        shown: Shown,
         since: u64,
-        sample: &Option<Sample>,
+        sample: &Option<SharedValue>,
     ) -> Result<(), AllocError>
-        requires { IsKeptOf self.old.tree id (record { start = start; since = since; value = option_map sample_of sample.now }) }
+        requires { IsKeptOf self.old.tree id (record { shown = shown; since = since; value = option_map shared_value_of sample.now }) }
         ensures { self.new ≡ self.old }
     {
         let sample = shared(sample)?;
         let kept = Kept {
-            start,
+            shown,
             since,
             sample,
         };
@@ -209,11 +211,18 @@ impl SampledCommit {
 }
 
 // The same sample again, with the same list.
-fn shared(sample: &Option<Sample>) -> Result<Option<Sample>, AllocError>
-    ensures { IfOk result (λ same. option_map sample_of same ≡ option_map sample_of sample.now) }
+fn shared(sample: &Option<SharedValue>) -> Result<Option<SharedValue>, AllocError>
+    ensures { IfOk result (λ same. option_map shared_value_of same ≡ option_map shared_value_of sample.now) }
 {
     match sample {
         None => Ok(None),
         Some(sample) => Ok(Some(sample.clone()?)),
     }
+}
+
+// Whether the same is shown.
+fn is_shown(one: Shown, other: Shown) -> bool
+    ensures { result ≡ is_shown one other }
+{
+    one.start == other.start && one.order == other.order
 }

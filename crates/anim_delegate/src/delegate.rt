@@ -1,3 +1,6 @@
+//! The function that main asks about each event, behind a trait that names its contract. The delegate gives a
+//! verdict; main's tree drops the model.
+
 ghost use Rattle.std.specs.Prelude.{◌≡◌};
 ghost use Rattle.std.specs.Borrow.{Bor};
 ghost use Rattle.anim_names.specs.declared.event.AnimEvent.{AnimEvent};

@@ -1,3 +1,5 @@
+//! The policies of models, and the table that gives the verdict on an event for each of them.
+
 ghost use Rattle.std.specs.Prelude.{◌≡◌};
 ghost use Rattle.anim_delegate.specs.Table.{verdict_on};
 

@@ -1,15 +1,26 @@
--- Loops over places and ids that put marks behind the others.
+-- Loops over indices and ids that put marks behind the others.
 use Rattle.std.proofs.Common.{◌≡◌, ℕ, ◌+◌, ◌≤◌, Bool, true, false, List, [], ◌∷◌, ◌++◌, length, map, drop, filter, Option, Some, refl, ap, ◌∙◌, arith, append_assoc, cond, subst, zero, suc}
 use Rattle.std.specs.Prelude.{slice_get}
 use Rattle.std.proofs.lemmas.List.{length-append}
 use Rattle.std.proofs.lemmas.Option.{none-some, same_Some}
 use Rattle.keyframe_model.specs.Models.{Spec}
 use Rattle.tree_commit.specs.Trees.{Committed}
-use Rattle.tree_commit.specs.declared.runs.mark.Mark.{Mark}
+use Rattle.run_rules.specs.declared.mark.Mark.{Mark}
 use Rattle.host_tables.specs.MarkLists.{Marked, mark_if, with_marks}
 use Rattle.anim_host.specs.Standing.{Stood, with_new}
 use Rattle.host_tables.proofs.LoopLemmas.{made-last, made-next}
-use Rattle.anim_host.proofs.PushLemmas.{with-marks}
+
+marked : List Mark → ℕ → ℕ → Marked
+marked marks cleared room = record { marks = marks; cleared = cleared; room = room }
+
+-- other marks, and all else as it was
+pub with-marks : (old now : Marked) (marks : List Mark) → now.marks ≡ marks → now.cleared ≡ old.cleared → now.room ≡ old.room
+    → now ≡ record old { marks = marks }
+unfolding marked
+with-marks old now marks is cleared room =
+    ap (λ (m : List Mark). marked m now.cleared now.room) is
+    ∙ ap (λ (c : ℕ). marked marks c now.room) cleared
+    ∙ ap (λ (r : ℕ). marked marks old.cleared r) room
 
 stood : Committed → Option Committed → Marked → ℕ → Stood
 stood active pending list tick = record { active = active; pending = pending; list = list; last_tick = tick }

@@ -1,4 +1,3 @@
-pub mod PushLemmas
 pub mod StartLemmas
 pub mod ShownLemmas
 pub mod StandLemmas

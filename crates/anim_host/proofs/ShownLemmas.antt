@@ -1,15 +1,15 @@
 -- What a host shows, and what its marks show: the same of each model of the active commit.
-use Rattle.std.proofs.Common.{◌≡◌, ℕ, ◌≤◌, get_or, ◌||◌, Bool, true, false, cond, List, [], ◌∷◌, map, filter, Option, None, refl, ap, ◌∙◌}
-use Rattle.std.specs.Prelude.{unsigned_abs, filter_map, option_map, IfSome, if◌then◌else◌, ◌==◌}
+use Rattle.std.proofs.Common.{◌≡◌, ℕ, ◌≤◌, get_or, Bool, true, false, cond, List, [], ◌∷◌, map, filter, Option, None, refl, ap, ◌∙◌}
+use Rattle.std.specs.Prelude.{unsigned_abs, filter_map, fold, option_map, IfSome, if◌then◌else◌, ◌==◌}
 use Rattle.std.specs.List.{list_any, cons_option}
-use Rattle.std.proofs.lemmas.Bool.{eq-eqb}
+use Rattle.std.proofs.lemmas.Bool.{eq-eqb, or_left, or_right}
 use Rattle.anim_names.specs.declared.property.Property.{Property}
-use Rattle.anim_names.specs.declared.property.Property.TheVariants.{Opacity, Transform}
+use Rattle.anim_names.specs.declared.property.TheConstants.{PROPERTIES}
 use Rattle.micro_time.specs.declared.TheConstants.{LARGEST_LOCAL}
 use Rattle.keyframe_model.specs.Models.{Spec, PropertyValue}
-use Rattle.tree_commit.specs.declared.runs.shown.Shown.{Shown}
-use Rattle.tree_commit.specs.Trees.{Element, has_model, local_time}
-use Rattle.tree_commit.specs.Frames.{DrawnFrame, DrawnRow, Given, LocalTimesFit, animated_value, animates, frame_at, frame_by, given_by, latest_of, opacity_or, row_of, shown_by, transform_or}
+use Rattle.tree_commit.specs.declared.shown.Shown.{Shown}
+use Rattle.tree_commit.specs.Trees.{Element, Look, has_model, local_time}
+use Rattle.run_rules.specs.Frames.{DrawnFrame, DrawnRow, Given, LocalTimesFit, animated_value, animates, frame_at, frame_by, given_by, latest_of, row_of, show, shown_by}
 use Rattle.anim_host.specs.Hosting.{Hosting, shown_in}
 
 -- ---- one model
@@ -19,14 +19,6 @@ shown-there host id there = ap (λ b. if b then shown_by host.marks id else None
 
 itself : (id : ℕ) → (id == id) ≡ true
 itself id = eq-eqb id id refl
-
-or-first : (a b : Bool) → a ≡ true → (a || b) ≡ true
-or-first true b is = refl
-or-first false b is = cc
-
-or-second : (a b : Bool) → b ≡ true → (a || b) ≡ true
-or-second true b is = refl
-or-second false b is = is
 
 -- ---- all models that animate a property
 
@@ -50,9 +42,9 @@ given-same host tick p (model ∷ models) there =
     (λ (m : Spec). given_by host.active.tree tick m (shown_by host.marks m.id))
     p model models
     (ap (given_by host.active.tree tick model)
-    (shown-there host model.id (there model.id (or-first (model.id == model.id) (list_any (λ (m : Spec). model.id == m.id) models) (itself model.id)))))
+    (shown-there host model.id (there model.id (or_left (model.id == model.id) (list_any (λ (m : Spec). model.id == m.id) models) (itself model.id)))))
     (given-same host tick p models
-    (λ id found. there id (or-second (id == model.id) (list_any (λ (m : Spec). id == m.id) models) found)))
+    (λ id found. there id (or_right (id == model.id) (list_any (λ (m : Spec). id == m.id) models) found)))
 
 value-same : (host : Hosting) (tick element : ℕ) (property : Property)
     → animated_value host.active.tree (shown_in host) tick element property
@@ -64,21 +56,22 @@ value-same host tick element property =
 
 -- ---- rows and frames
 
-row : Element → Option PropertyValue → Option PropertyValue → DrawnRow
-row element opacity transform = record {
-  element = element.id;
-  opacity = opacity_or element.look.opacity opacity;
-  transform = transform_or element.look.transform transform;
-}
+looks-same : (host : Hosting) (tick : ℕ) (element : Element) (look : Look) (properties : List Property)
+    → fold (λ look property. show look (animated_value host.active.tree (shown_in host) tick element.id property)) look properties
+    ≡ fold (λ look property. show look (animated_value host.active.tree (shown_by host.marks) tick element.id property)) look properties
+looks-same host tick element look [] = refl
+looks-same host tick element look (property ∷ properties) =
+    ap
+    (λ (o : Option PropertyValue).
+    fold (λ look property. show look (animated_value host.active.tree (shown_in host) tick element.id property)) (show look o) properties)
+    (value-same host tick element.id property)
+    ∙ looks-same host tick element (show look (animated_value host.active.tree (shown_by host.marks) tick element.id property)) properties
 
 row-same : (host : Hosting) (tick : ℕ) (element : Element)
     → row_of host.active.tree (shown_in host) tick element ≡ row_of host.active.tree (shown_by host.marks) tick element
-unfolding row_of row
+unfolding row_of
 row-same host tick element =
-    ap (λ (o : Option PropertyValue). row element o (animated_value host.active.tree (shown_in host) tick element.id Transform))
-    (value-same host tick element.id Opacity)
-    ∙ ap (λ (t : Option PropertyValue). row element (animated_value host.active.tree (shown_by host.marks) tick element.id Opacity) t)
-    (value-same host tick element.id Transform)
+    ap (λ (look : Look). record { element = element.id; look = look }) (looks-same host tick element element.look PROPERTIES)
 
 rows-same : (host : Hosting) (tick : ℕ) (elements : List Element)
     → map (row_of host.active.tree (shown_in host) tick) elements ≡ map (row_of host.active.tree (shown_by host.marks) tick) elements
@@ -105,4 +98,4 @@ pub locals-same : (host : Hosting) (time : ℕ) → LocalTimesFit host.active.tr
 locals-same host time fits = λ k d within.
     let model = get_or host.active.tree.models k d in
     fits-if (has_model host.active.tree model.id) (shown_by host.marks model.id)
-    (λ (s : Shown). unsigned_abs (local_time host.active.tree time model s.start) ≤ LARGEST_LOCAL) (fits k d within)
+    (λ (s : Shown). unsigned_abs (local_time host.active.tree time model s) ≤ LARGEST_LOCAL) (fits k d within)

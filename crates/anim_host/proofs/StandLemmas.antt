@@ -3,16 +3,15 @@ use Rattle.std.proofs.Common.{◌≡◌, ◌≢◌, ℕ, ◌+◌, Bool, true, fa
 use Rattle.std.specs.Prelude.{slice_get, ◌==◌, option_map, option_and_then, IfSome}
 use Rattle.std.specs.List.{IsDistinct}
 use Rattle.std.proofs.Math.Bool.{or-false}
-use Rattle.std.proofs.lemmas.Bool.{eq-eqb}
+use Rattle.std.proofs.lemmas.Bool.{eq-eqb, or_right}
 use Rattle.std.proofs.lemmas.Bool.Decides.{eqb_tells}
 use Rattle.std.proofs.lemmas.Option.{none-some, same_Some}
 use Rattle.keyframe_model.specs.Models.{Spec}
-use Rattle.tree_commit.specs.declared.runs.mark.Mark.{Mark}
-use Rattle.tree_commit.specs.declared.runs.mark.Mark.TheVariants.{Started, Finished, Aborted}
-use Rattle.tree_commit.specs.Follows.{IsAmong}
-use Rattle.tree_commit.specs.Marks.{model_of}
+use Rattle.run_rules.specs.declared.mark.Mark.{Mark}
+use Rattle.run_rules.specs.declared.mark.Mark.TheVariants.{OfModel}
+use Rattle.run_rules.specs.declared.mark.ModelMark.{ModelMark}
+use Rattle.anim_names.specs.Lists.{IsAmong}
 use Rattle.tree_commit.proofs.Among.{among-has}
-use Rattle.anim_host.specs.Fits.{IsOf}
 use Rattle.keyframe_effect.specs.Groups.{CanMove, first_row, moved, moved_count, one_if, row_with}
 use Rattle.keyframe_effect.specs.States.{is_unfinished, is_waiting}
 use Rattle.host_tables.proofs.MarkedLemmas.{marked-advanced, marked-runs, marked-waits, state-marked}
@@ -35,12 +34,12 @@ row-same false false marks more id same = refl
 row-same false true marks more id same = ap (λ s. Some (record { model = id; state = s; in_active = false; in_pending = true })) (sym same)
 row-same true pending marks more id same = ap (λ s. Some (record { model = id; state = s; in_active = true; in_pending = pending })) (sym same)
 
-row-advanced : (active pending : Bool) (marks more : List Mark) (mark : Mark) (order id : ℕ)
-    → state_of more id ≡ advanced (state_of marks id) mark order
-    → option_map (advanced_row mark order) (row_if active pending marks id) ≡ row_if active pending more id
-row-advanced false false marks more mark order id next = refl
-row-advanced false true marks more mark order id next = ap (λ s. Some (record { model = id; state = s; in_active = false; in_pending = true })) (sym next)
-row-advanced true pending marks more mark order id next = ap (λ s. Some (record { model = id; state = s; in_active = true; in_pending = pending })) (sym next)
+row-advanced : (active pending : Bool) (marks more : List Mark) (what : ModelMark) (order id : ℕ)
+    → state_of more id ≡ advanced (state_of marks id) what order
+    → option_map (advanced_row what order) (row_if active pending marks id) ≡ row_if active pending more id
+row-advanced false false marks more what order id next = refl
+row-advanced false true marks more what order id next = ap (λ s. Some (record { model = id; state = s; in_active = false; in_pending = true })) (sym next)
+row-advanced true pending marks more what order id next = ap (λ s. Some (record { model = id; state = s; in_active = true; in_pending = pending })) (sym next)
 
 row-joined : (active pending : Bool) (marks : List Mark) (id : ℕ)
     → (active ≡ false → state_of marks id ≡ state.Waiting)
@@ -56,27 +55,26 @@ row-left false marks id = refl
 -- ---- all rows
 
 -- one more mark
-pub advanced-next : (at new : ℕ → Option ModelRow) (active pending : List Spec) (marks : List Mark) (mark : Mark)
+pub advanced-next : (at new : ℕ → Option ModelRow) (active pending : List Spec) (marks : List Mark) (model : ℕ) (what : ModelMark)
     → ((id : ℕ) → at id ≡ row_for active pending marks id)
     → FinishesStarted marks
-    → new (model_of mark) ≡ option_map (advanced_row mark (length marks)) (at (model_of mark))
-    → ((id : ℕ) → id ≢ model_of mark → new id ≡ at id)
-    → (id : ℕ) → new id ≡ row_for active pending (marks ++ mark ∷ []) id
+    → new model ≡ option_map (advanced_row what (length marks)) (at model)
+    → ((id : ℕ) → id ≢ model → new id ≡ at id)
+    → (id : ℕ) → new id ≡ row_for active pending (marks ++ OfModel model what ∷ []) id
 unfolding row_for
-advanced-next at new active pending marks mark stand fits here others id =
-    elim (eqb_tells id (model_of mark)) [
+advanced-next at new active pending marks model what stand fits here others id =
+    let more = marks ++ OfModel model what ∷ [] in
+    elim (eqb_tells id model) [
       | inl t ↦
-          let it = model_of mark in
           ap new t.1
           ∙ here
-          ∙ ap (option_map (advanced_row mark (length marks))) (stand (model_of mark))
-          ∙ row-advanced (is_among active (model_of mark)) (is_among pending (model_of mark)) marks (marks ++ mark ∷ []) mark (length marks) (model_of mark)
-          (state-here marks mark fits)
-          ∙ ap (λ (n : ℕ). row_if (is_among active n) (is_among pending n) (marks ++ mark ∷ []) n) (sym t.1)
+          ∙ ap (option_map (advanced_row what (length marks))) (stand model)
+          ∙ row-advanced (is_among active model) (is_among pending model) marks more what (length marks) model (state-here marks model what fits)
+          ∙ ap (λ (n : ℕ). row_if (is_among active n) (is_among pending n) more n) (sym t.1)
       | inr f ↦
           others id f.1
           ∙ stand id
-          ∙ row-same (is_among active id) (is_among pending id) marks (marks ++ mark ∷ []) id (state-other marks mark id f.1)
+          ∙ row-same (is_among active id) (is_among pending id) marks more id (state-other marks model what id f.1)
     ]
 
 -- one more model of the pending commit
@@ -94,7 +92,7 @@ joined-next at new active pending marks i model found waits here others stand id
           let there : is_among (take (i + 1) pending) model.id ≡ true =
           ap (λ (k : ℕ). is_among (take k pending) model.id) (add-one i)
           ∙ among-taken pending i model model.id found
-          ∙ or-fact (is_among (take i pending) model.id) (model.id == model.id) (eq-eqb model.id model.id refl) in
+          ∙ or_right (is_among (take i pending) model.id) (model.id == model.id) (eq-eqb model.id model.id refl) in
           ap new t.1
           ∙ here
           ∙ ap (λ (o : Option ModelRow). Some (joined model.id o)) (stand model.id)
@@ -109,10 +107,6 @@ joined-next at new active pending marks i model found waits here others stand id
           ∙ or-false (is_among (take i pending) id) in
           others id f.1 ∙ stand id ∙ ap (λ (b : Bool). row_if (is_among active id) b marks id) (sym same)
     ]
-  where
-    or-fact : (a b : Bool) → b ≡ true → (a || b) ≡ true
-    or-fact true b is = refl
-    or-fact false b is = is
 
 -- one fewer model of the active commit
 pub left-next : (at new : ℕ → Option ModelRow) (active pending : List Spec) (marks : List Mark) (i : ℕ) (model : Spec)
@@ -239,16 +233,11 @@ row-nowhere marks id = refl
 
 -- ---- the rows of the groups
 
-of-model : (mark : Mark) (model : Spec) → IsOf mark model → model_of mark ≡ model.id
-of-model (Started id group element property at start) model of = of.0
-of-model (Finished id at) model of = of
-of-model (Aborted id commit) model of = of
-
-module _ (at : ℕ → Option GroupRow) (models pending : List Spec) (rows : ℕ → Option ModelRow) (marks : List Mark) (mark : Mark) (model : Spec)
-    (before after : RunState) (differ : IsDistinct nat_eq (map (λ m. m.id) models)) (there : IsAmong model models) (of : IsOf mark model)
-    (fits : FinishesStarted marks) (more : FinishesStarted (marks ++ mark ∷ []))
+module _ (at : ℕ → Option GroupRow) (models pending : List Spec) (rows : ℕ → Option ModelRow) (marks : List Mark) (what : ModelMark) (model : Spec)
+    (before after : RunState) (differ : IsDistinct nat_eq (map (λ m. m.id) models)) (there : IsAmong model models)
+    (fits : FinishesStarted marks) (more : FinishesStarted (marks ++ OfModel model.id what ∷ []))
     (stand : (id : ℕ) → option_map marked_row (rows id) ≡ row_for models pending marks id)
-    (was : before ≡ state_in (rows model.id)) (is : after ≡ advanced before mark (length marks))
+    (was : before ≡ state_in (rows model.id)) (is : after ≡ advanced before what (length marks))
     (counts : (group : ℕ) → at group ≡ group_row_of models marks group)
   where
     had : as_marked before ≡ state_of marks model.id
@@ -258,13 +247,12 @@ module _ (at : ℕ → Option GroupRow) (models pending : List Spec) (rows : ℕ
         ∙ ap state_in (stand model.id)
         ∙ row-stated models pending marks model.id (among-has model models there)
 
-    has : as_marked after ≡ state_of (marks ++ mark ∷ []) model.id
+    has : as_marked after ≡ state_of (marks ++ OfModel model.id what ∷ []) model.id
     has =
         ap as_marked is
-        ∙ marked-advanced before mark (length marks)
-        ∙ ap (λ s. advanced s mark (length marks)) (had ∙ ap (state_of marks) (sym (of-model mark model of)))
-        ∙ sym (state-here marks mark fits)
-        ∙ ap (state_of (marks ++ mark ∷ [])) (of-model mark model of)
+        ∙ marked-advanced before what (length marks)
+        ∙ ap (λ s. advanced s what (length marks)) had
+        ∙ sym (state-here marks model.id what fits)
 
     -- what a row makes of a step is what it makes of it as the marks know it
     moves-marked : (o : Option GroupRow) → option_map (moved before after) o ≡ option_map (moved (as_marked before) (as_marked after)) o
@@ -294,13 +282,13 @@ module _ (at : ℕ → Option GroupRow) (models pending : List Spec) (rows : ℕ
     counted-can most few =
         subst (λ (o : Option GroupRow). IfSome o (CanMove most before after)) (sym (counts model.group))
         (can-marked most (group_row_of models marks model.group)
-        (group-can models marks mark model differ there (of-model mark model of) fits more (as_marked before) (as_marked after) most had has few))
+        (group-can models marks what model differ there fits more (as_marked before) (as_marked after) most had has few))
 
     -- one more mark
     pub counted-next : (new : ℕ → Option GroupRow)
         → new model.group ≡ option_map (moved before after) (at model.group)
         → ((group : ℕ) → group ≢ model.group → new group ≡ at group)
-        → (group : ℕ) → new group ≡ group_row_of models (marks ++ mark ∷ []) group
+        → (group : ℕ) → new group ≡ group_row_of models (marks ++ OfModel model.id what ∷ []) group
     counted-next new here others group =
         elim (eqb_tells group model.group) [
           | inl t ↦
@@ -308,12 +296,12 @@ module _ (at : ℕ → Option GroupRow) (models pending : List Spec) (rows : ℕ
               ∙ here
               ∙ ap (option_map (moved before after)) (counts model.group)
               ∙ moves-marked (group_row_of models marks model.group)
-              ∙ sym (group-here models marks mark model differ there (of-model mark model of) fits more (as_marked before) (as_marked after) had has)
-              ∙ ap (group_row_of models (marks ++ mark ∷ [])) (sym t.1)
+              ∙ sym (group-here models marks what model differ there fits more (as_marked before) (as_marked after) had has)
+              ∙ ap (group_row_of models (marks ++ OfModel model.id what ∷ [])) (sym t.1)
           | inr f ↦
               others group f.1
               ∙ counts group
-              ∙ sym (group-else models marks mark model differ there (of-model mark model of) fits more group f.1)
+              ∙ sym (group-else models marks what model differ there fits more group f.1)
         ]
 
 joins-marked : (model : Spec) (state : RunState) (o : Option GroupRow) → joined_row model state o ≡ joined_row model (as_marked state) o

@@ -1,12 +1,12 @@
 -- The groups in turn: what those before an index started, and then what the rest starts, is all.
-use Rattle.std.proofs.Common.{◌≡◌, ℕ, ◌+◌, ◌≤◌, ◌<◌, Bool, true, false, cond, List, [], ◌∷◌, ◌++◌, length, drop, map, Option, get_or, refl, sym, ap, ◌∙◌, append_assoc, arith}
-use Rattle.std.proofs.lemmas.List.{append-nil, drop_all, drop_more, length-append, length-map}
-use Rattle.tree_commit.specs.declared.runs.mark.Mark.{Mark}
+use Rattle.std.proofs.Common.{◌≡◌, ℕ, ◌+◌, ◌≤◌, Bool, true, false, cond, List, [], ◌∷◌, ◌++◌, length, drop, map, Option, refl, sym, ap, ◌∙◌, append_assoc, arith}
+use Rattle.std.proofs.lemmas.List.{append-nil, drop_all, length-append, length-map}
+use Rattle.run_rules.specs.declared.mark.Mark.{Mark}
 use Rattle.tree_commit.specs.Trees.{TreeLists, Committed, members_of}
-use Rattle.tree_commit.specs.Marks.{group_marks, is_ready, start_mark, start_marks}
+use Rattle.run_rules.specs.Marks.{group_marks, is_ready, start_mark, start_marks}
 use Rattle.host_tables.specs.MarkLists.{Marked, with_marks}
 use Rattle.anim_host.specs.Ticks.{start_room}
-use Rattle.anim_host.proofs.PushLemmas.{with-marks}
+use Rattle.anim_host.proofs.GrowLemmas.{with-marks}
 
 pub record Starting (tree : TreeLists) (pending : Option Committed) (tick : ℕ) (groups : List ℕ) (index : ℕ) (old now : Marked) : Type 0 where
   pub made :
@@ -15,10 +15,6 @@ pub record Starting (tree : TreeLists) (pending : Option Committed) (tick : ℕ)
   pub fits : length now.marks + (start_room tree (drop index groups) + length tree.models) ≤ old.room
   pub cleared : now.cleared ≡ old.cleared
   pub room : now.room ≡ old.room
-
--- a group whose index was read comes first of what is left from there on
-pub drop-read : (xs : List ℕ) (i x : ℕ) → i < length xs → x ≡ get_or xs i x → drop i xs ≡ x ∷ drop (i + 1) xs
-drop-read xs i x within is = drop_more xs i x within ∙ ap (λ y. y ∷ drop (i + 1) xs) (sym is)
 
 started-if : (b : Bool) (tree : TreeLists) (tick group : ℕ)
     → length (cond b (map (start_mark tree tick) (members_of tree group)) []) ≤ length (members_of tree group)

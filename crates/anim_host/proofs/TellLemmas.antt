@@ -2,39 +2,37 @@
 use Rattle.std.proofs.Common.{◌≡◌, ℕ, suc, ◌+◌, Bool, true, false, not, ◌||◌, List, [], ◌∷◌, map, filter, cond, Option, Some, None, refl, sym, ap, ◌∙◌, subst, nat_eq, arith, inl, inr}
 use Rattle.std.specs.Prelude.{◌==◌, ◌&&◌, count_by, nat_lt}
 use Rattle.std.specs.List.{IsDistinct, list_all, list_any}
-use Rattle.std.proofs.lemmas.Bool.{eq-eqb, eqb-true}
+use Rattle.std.proofs.lemmas.Bool.{and_from, and_parts, both_ways, eq-eqb, eqb-true, ne_eqb}
 use Rattle.std.proofs.lemmas.Bool.Decides.{leb_tells}
-use Rattle.std.proofs.lemmas.List.Sums.{sum_by-cons}
 use Rattle.std.proofs.lemmas.Option.{none-some, same_Some}
 use Rattle.anim_names.specs.declared.lane.Tree.TheVariants.{Pending}
+use Rattle.anim_names.specs.declared.property.Property.{Property}
+use Rattle.anim_names.proofs.PropertyLemmas.{at-for_each}
 use Rattle.element_anims.specs.Elements.{Anims, is_present}
 use Rattle.keyframe_model.specs.Models.{Spec, property_of}
 use Rattle.keyframe_effect.specs.declared.group.GroupRow.{GroupRow}
 use Rattle.keyframe_effect.specs.Groups.{one_if}
 use Rattle.keyframe_effect.specs.Ready as effect
-use Rattle.keyframe_effect.specs.Rule.{IsInTable, TellsOf, has_some}
+use Rattle.keyframe_effect.specs.Rule.{IsInTable, TellsOf, animates, has_some}
 use Rattle.keyframe_effect.proofs.RuleLemmas.{has_some-filter, list_all-filter, rows_follow}
-use Rattle.tree_commit.specs.declared.runs.mark.Mark.{Mark}
-use Rattle.tree_commit.specs.Follows.{IsAmong}
-use Rattle.tree_commit.specs.Marks.{are_over, finishing_models, is_ended, is_ready, is_running, is_started, may_start, pending_allows, starts_in}
+use Rattle.run_rules.specs.declared.mark.Mark.{Mark}
+use Rattle.anim_names.specs.Lists.{IsAmong}
+use Rattle.run_rules.specs.Marks.{are_over, finishing_models, is_ended, is_ready, is_unfinished, is_started, may_start, pending_allows, starts_in}
 use Rattle.tree_commit.specs.Trees.{Committed, TreeLists, groups_of, has_group, members_of}
 use Rattle.tree_commit.proofs.Among.{among-filter, among-filter_from, any-among, any-cases}
 use Rattle.host_tables.specs.Blocks.{BlocksStand}
-use Rattle.host_tables.specs.Elements.{PresenceStands, pending_has}
+use Rattle.host_tables.specs.Elements.{PresenceStands, pending_has_element}
 use Rattle.host_tables.specs.Groups.{group_row_of, is_waiting, row_of_members}
-use Rattle.host_tables.proofs.ElementLemmas.{apart-test}
-use Rattle.host_tables.proofs.GroupLemmas.{count-moves}
-use Rattle.host_tables.proofs.ShapeLemmas.{groups-any}
-use Rattle.anim_host.specs.Fits.{AreSettled, MarksFit}
-use Rattle.anim_host.specs.Standing.{holds_group}
+use Rattle.host_tables.proofs.GroupLemmas.{count-moves, count-cons}
+use Rattle.host_tables.proofs.CommitGroupsLemmas.{groups-any}
+use Rattle.anim_host.specs.Fits.{AreSettled, MarksFitModels}
+use Rattle.anim_host.specs.Standing.{pending_has_group}
 use Rattle.anim_host.specs.Ticks.{finishes, group_finishes}
-use Rattle.anim_host.proofs.BlockLemmas.{and-both, and-first, and-second, blocked-for, clash}
-use Rattle.anim_host.proofs.SettleLemmas.{no-places, not-ended, started-tells}
+use Rattle.anim_host.proofs.BlockLemmas.{blocked-for}
+use Rattle.anim_host.proofs.SettleLemmas.{no-indices, not-ended, started-tells}
+use Rattle.std.proofs.Math.Nat.{add-zero}
 
 -- ---- counts
-
-count-cons : (p : Spec → Bool) (x : Spec) (xs : List Spec) → count_by p (x ∷ xs) ≡ one_if (p x) + count_by p xs
-count-cons p x xs = sum_by-cons (λ (m : Spec). one_if (p m)) x xs
 
 none-plus : (n : ℕ) → 0 + n ≡ n
 none-plus n = omega arith
@@ -70,7 +68,7 @@ none-of marks group [] is = refl
 none-of marks group (first ∷ mates) is = absurd (none-some _ (sym is))
 
 runs-of : (marks : List Mark) (group : ℕ) (members : List Spec) (row : GroupRow) → row_of_members marks group members ≡ Some row
-    → row.unfinished ≡ count_by (λ model. is_running marks model.id) members
+    → row.unfinished ≡ count_by (λ model. is_unfinished marks model.id) members
 runs-of marks group [] row is = absurd (none-some row is)
 runs-of marks group (first ∷ mates) row is = ap (λ (r : GroupRow). r.unfinished) (sym (same_Some _ row is))
 
@@ -81,39 +79,36 @@ unfolding group_row_of
 no-members models marks group is = none-of marks group (filter (λ (m : Spec). group == m.group) models) is
 
 pub some-run : (models : List Spec) (marks : List Mark) (group : ℕ) (row : GroupRow) → group_row_of models marks group ≡ Some row
-    → nat_lt 0 row.unfinished ≡ list_any (λ (m : Spec). is_running marks m.id) (filter (λ (m : Spec). group == m.group) models)
+    → nat_lt 0 row.unfinished ≡ list_any (λ (m : Spec). is_unfinished marks m.id) (filter (λ (m : Spec). group == m.group) models)
 unfolding group_row_of
 some-run models marks group row is =
     ap (nat_lt 0) (runs-of marks group (filter (λ (m : Spec). group == m.group) models) row is)
-    ∙ count-any (λ (m : Spec). is_running marks m.id) (filter (λ (m : Spec). group == m.group) models)
+    ∙ count-any (λ (m : Spec). is_unfinished marks m.id) (filter (λ (m : Spec). group == m.group) models)
 
 -- others than this model run where more run than this one
 pub others-run : (models : List Spec) (marks : List Mark) (model : Spec) (row : GroupRow)
     → IsDistinct nat_eq (map (λ m. m.id) models) → IsAmong model models
     → group_row_of models marks model.group ≡ Some row
-    → nat_lt (one_if (is_running marks model.id)) row.unfinished
-    ≡ list_any (λ (m : Spec). not (m.id == model.id) && is_running marks m.id) (filter (λ (m : Spec). model.group == m.group) models)
+    → nat_lt (one_if (is_unfinished marks model.id)) row.unfinished
+    ≡ list_any (λ (m : Spec). not (m.id == model.id) && is_unfinished marks m.id) (filter (λ (m : Spec). model.group == m.group) models)
 unfolding group_row_of
 others-run models marks model row differ there is =
     let keep = λ (m : Spec). model.group == m.group in
-    let runs = λ (m : Spec). is_running marks m.id in
-    let others = λ (m : Spec). not (m.id == model.id) && is_running marks m.id in
+    let runs = λ (m : Spec). is_unfinished marks m.id in
+    let others = λ (m : Spec). not (m.id == model.id) && is_unfinished marks m.id in
     let own : keep model ≡ true = eq-eqb model.group model.group refl in
-    let itself : others model ≡ false = ap (λ b. not b && is_running marks model.id) (eq-eqb model.id model.id refl) in
+    let itself : others model ≡ false = ap (λ b. not b && is_unfinished marks model.id) (eq-eqb model.id model.id refl) in
     let moves = count-moves keep runs others model
-    (λ x other. ap (λ b. not b && is_running marks x.id) (apart-test x.id model.id other))
+    (λ x other. ap (λ b. not b && is_unfinished marks x.id) (ne_eqb x.id model.id other))
     models differ there in
     let sum : count_by others (filter keep models) + one_if (runs model) ≡ row.unfinished =
     ap (λ (b : Bool). count_by others (filter keep models) + one_if (b && runs model)) (sym own)
     ∙ moves
     ∙ ap (λ (b : Bool). count_by runs (filter keep models) + one_if b) (ap (λ b. b && others model) own ∙ itself)
-    ∙ plus-none (count_by runs (filter keep models))
+    ∙ add-zero (count_by runs (filter keep models))
     ∙ sym (runs-of marks model.group (filter keep models) row is) in
     more-than (one_if (runs model)) row.unfinished (count_by others (filter keep models)) sum
     ∙ count-any others (filter keep models)
-  where
-    plus-none : (n : ℕ) → n + 0 ≡ n
-    plus-none n = omega arith
 
 -- ---- what finishes
 
@@ -136,17 +131,17 @@ none-finish tree marks tick none =
     either : (model : Spec) → IsAmong model tree.models → (b : Bool) → finishes tree marks tick model ≡ b → finishes tree marks tick model ≡ false
     either model there false is = is
     either model there true is =
-        let runs = and-first (is_running marks model.id) (are_over tree marks tick model.group) is in
-        let over = and-second (is_running marks model.id) (are_over tree marks tick model.group) is in
-        let mine : list_any (λ (m : Spec). is_running marks m.id) (members_of tree model.group) ≡ true =
-        any-among (λ (m : Spec). is_running marks m.id) model (members_of tree model.group)
+        let runs = (and_parts (is_unfinished marks model.id) (are_over tree marks tick model.group) is).0 in
+        let over = (and_parts (is_unfinished marks model.id) (are_over tree marks tick model.group) is).1 in
+        let mine : list_any (λ (m : Spec). is_unfinished marks m.id) (members_of tree model.group) ≡ true =
+        any-among (λ (m : Spec). is_unfinished marks m.id) model (members_of tree model.group)
         (among-filter_from (λ (m : Spec). model.group == m.group) model tree.models there (eq-eqb model.group model.group refl)) runs in
         let found = any-cases (λ (other : ℕ). model.group == other) (groups_of tree) (of-groups model there) in
         let same : model.group ≡ found.0 = eqb-true model.group found.0 found.2 in
         let all = any-among (group_finishes tree marks tick) found.0 (groups_of tree) found.1
         (subst (λ (g : ℕ). group_finishes tree marks tick g ≡ true) same
-        (and-both (list_any (λ (m : Spec). is_running marks m.id) (members_of tree model.group)) (are_over tree marks tick model.group) mine over)) in
-        clash (list_any (group_finishes tree marks tick) (groups_of tree)) all none
+        (and_from (list_any (λ (m : Spec). is_unfinished marks m.id) (members_of tree model.group)) (are_over tree marks tick model.group) mine over)) in
+        absurd (both_ways (list_any (group_finishes tree marks tick) (groups_of tree)) none all)
 
 -- ---- whether a group is ready
 
@@ -156,11 +151,11 @@ pub none-ready : (tree : TreeLists) (pending : Option Committed) (marks : List M
 unfolding is_ready
 none-ready tree pending marks group is =
     ap (λ b. b && not (list_any (starts_in group) marks) && list_all (may_start tree pending marks) (members_of tree group))
-    (no-places tree.models group (no-members tree.models marks group is))
+    (no-indices tree.models group (no-members tree.models marks group is))
 
 module _ (table : Anims) (active : Committed) (pending : Option Committed) (marks : List Mark) (group : ℕ)
     (presence : PresenceStands table active pending) (blocked : BlocksStand table marks)
-    (fit : MarksFit active.tree.models marks) (settled : AreSettled active.tree.models marks)
+    (fit : MarksFitModels active.tree.models marks) (settled : AreSettled active.tree.models marks)
   where
     abbrev keep : Spec → Bool
     keep model = group == model.group
@@ -168,12 +163,12 @@ module _ (table : Anims) (active : Committed) (pending : Option Committed) (mark
     abbrev has_started : Bool
     has_started = list_any (starts_in group) marks
 
-    allows : (held : Option Committed) → ((e : ℕ) → is_present table Pending e ≡ pending_has held e) → (element : ℕ)
-        → pending_allows held group element ≡ (not (holds_group held group) || is_present table Pending element)
+    allows : (next : Option Committed) → ((e : ℕ) → is_present table Pending e ≡ pending_has_element next e) → (element : ℕ)
+        → pending_allows next group element ≡ (not (pending_has_group next group) || is_present table Pending element)
     allows None is element = refl
     allows (Some commit) is element = ap (λ b. not (has_group commit.tree group) || b) (sym (is element))
 
-    in-table : (row : GroupRow) → row.group ≡ group → IsInTable row table (holds_group pending group) (may_start active.tree pending marks)
+    in-table : (row : GroupRow) → row.group ≡ group → IsInTable row table (pending_has_group pending group) (may_start active.tree pending marks)
     in-table row own model its element = λ i.
         (sym (presence.of_active model.element) i
         && (ap (λ (g : ℕ). pending_allows pending g model.element) (its ∙ own) ∙ allows pending presence.of_pending model.element) i)
@@ -182,7 +177,7 @@ module _ (table : Anims) (active : Committed) (pending : Option Committed) (mark
     all-among : (test : Spec → Bool) (models : List Spec) → ((m : Spec) → IsAmong m models → test m ≡ true) → list_all test models ≡ true
     all-among test [] all = refl
     all-among test (x ∷ xs) all =
-        and-both (test x) (list_all test xs) (all x (inl refl)) (all-among test xs (λ m there. all m (inr there)))
+        and_from (test x) (list_all test xs) (all x (inl refl)) (all-among test xs (λ m there. all m (inr there)))
 
     of : (m : Spec) (members : List Spec) → filter keep active.tree.models ≡ members → IsAmong m members → IsAmong m active.tree.models × (keep m ≡ true)
     of m members is there = among-filter keep m active.tree.models (subst (λ (ms : List Spec). IsAmong m ms) (sym is) there)
@@ -224,23 +219,22 @@ module _ (table : Anims) (active : Committed) (pending : Option Committed) (mark
                 eq-eqb first.element m.element
                 (fit.mates first m one.0 other.0 (sym (eqb-true group first.group one.1) ∙ eqb-true group m.group other.1)));
             waiting = waits first mates is;
-            opacity = λ none. refl;
-            transform = λ none. refl;
+            properties = λ none property. at-for_each (λ (p : Property). animates p (first ∷ mates)) property;
           },
           refl,
         )
 
     -- A group is ready by its row exactly where it is ready by its models.
     pub row-ready : (row : GroupRow) → group_row_of active.tree.models marks group ≡ Some row
-        → effect.is_ready row table (holds_group pending group) ≡ is_ready active.tree pending marks group
+        → effect.is_ready row table (pending_has_group pending group) ≡ is_ready active.tree pending marks group
     unfolding group_row_of is_ready
     row-ready row is = by (filter keep active.tree.models) refl is
       where
         by : (members : List Spec) → filter keep active.tree.models ≡ members → row_of_members marks group members ≡ Some row
-            → effect.is_ready row table (holds_group pending group) ≡ is_ready active.tree pending marks group
+            → effect.is_ready row table (pending_has_group pending group) ≡ is_ready active.tree pending marks group
         by [] all row_is = absurd (none-some row row_is)
         by (first ∷ mates) all row_is =
             let told = tells first mates row all row_is in
-            rows_follow row table (holds_group pending group) (first ∷ mates) has_started (may_start active.tree pending marks) told.0 (in-table row told.1)
+            rows_follow row table (pending_has_group pending group) (first ∷ mates) has_started (may_start active.tree pending marks) told.0 (in-table row told.1)
             ∙ (λ i. (ap has_some (sym all) ∙ has_some-filter keep active.tree.models) i && not has_started
             && list_all (may_start active.tree pending marks) (sym all i))

@@ -1,14 +1,15 @@
 -- What the tables of a host stand for: the active commit, the pending one or none, and the marks.
 use Rattle.std.specs.Prelude.{◌≡◌, ℕ, ◌+◌, ◌≤◌, Bool, true, false, List, length, Option, Some, None, IfSome, option_map}
-use Rattle.host_tables.specs.Shapes.{shape_of}
-use Rattle.tree_commit.specs.declared.runs.mark.Mark.{Mark}
+use Rattle.host_tables.specs.CommitGroups.{commit_groups}
+use Rattle.run_rules.specs.declared.mark.Mark.{Mark}
 use Rattle.element_anims.specs.Elements.{Anims}
 use Rattle.keyframe_model.specs.Models.{Spec}
-use Rattle.tree_commit.specs.Follows.{Follows, IsAmong}
-use Rattle.tree_commit.specs.Marks.{is_over, start_of}
+use Rattle.run_rules.specs.Follows.{Follows}
+use Rattle.anim_names.specs.Lists.{IsAmong}
+use Rattle.run_rules.specs.Marks.{is_over, start_of}
 use Rattle.tree_commit.specs.Trees.{Committed, TreeLists, has_group}
 use Rattle.host_tables.specs.Elements.{PresenceStands}
-use Rattle.anim_host.specs.Fits.{AreSettled, MarksFit}
+use Rattle.anim_host.specs.Fits.{AreSettled, MarksFitModels}
 use Rattle.host_tables.specs.Blocks.{BlocksStand}
 use Rattle.host_tables.specs.MarkLists.{Marked, with_marks}
 use Rattle.host_tables.specs.Groups.{Groups, group_at, group_row_of}
@@ -33,13 +34,13 @@ pub record StandsFor (rows : Rows) (groups : Groups) (table : Anims) (active : C
   pub of_elements : PresenceStands table active pending
   pub of_blocks : BlocksStand table marks
   pub finishes : FinishesStarted marks
-  pub fits : MarksFit active.tree.models marks
+  pub fits : MarksFitModels active.tree.models marks
   pub follows : IfSome pending (λ commit. Follows active.tree commit.tree marks)
 
 -- a pending commit has a model of the group
-abbrev pub holds_group : Option Committed → ℕ → Bool
-holds_group None group = false
-holds_group (Some commit) group = has_group commit.tree group
+abbrev pub pending_has_group : Option Committed → ℕ → Bool
+pending_has_group None group = false
+pending_has_group (Some commit) group = has_group commit.tree group
 
 -- the active commit, the pending one or none, the list of marks, and the time of the last tick
 pub record Stood : Type 0 where
@@ -52,10 +53,10 @@ pub record Stood : Type 0 where
 abbrev pub with_new : Stood → List Mark → Stood
 with_new stood new = record stood { list = with_marks stood.list new }
 
--- The groups of each commit with the places of their models are those of the commits. Where a commit is pending, there is
+-- The groups of each commit with the indices of their models are those of the commits. Where a commit is pending, there is
 -- room for a mark for each model of the active one. The marks are those of whole steps.
-pub record GoTogether (stood : Stood) (shape : List (ℕ × List ℕ)) (next : Option (List (ℕ × List ℕ))) : Type 0 where
-  pub of_active : shape ≡ shape_of stood.active.tree.models
-  pub of_pending : next ≡ option_map (λ commit. shape_of commit.tree.models) stood.pending
+pub record GroupsGoWithCommits (stood : Stood) (grouped : List (ℕ × List ℕ)) (next : Option (List (ℕ × List ℕ))) : Type 0 where
+  pub of_active : grouped ≡ commit_groups stood.active.tree.models
+  pub of_pending : next ≡ option_map (λ commit. commit_groups commit.tree.models) stood.pending
   pub settled : AreSettled stood.active.tree.models stood.list.marks
   pub roomy : IfSome stood.pending (λ commit. length stood.list.marks + length stood.active.tree.models ≤ stood.list.room)

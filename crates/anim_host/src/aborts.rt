@@ -3,15 +3,17 @@
 ghost use Rattle.std.specs.Prelude.{◌≡◌, ◌+◌, ◌≤◌, ◌<◌, true, length};
 ghost use Rattle.host_tables.specs.MarkLists.{mark_if};
 ghost use Rattle.anim_host.specs.Standing.{with_new};
-ghost use Rattle.tree_commit.specs.Follows.{IsAmong};
-ghost use Rattle.tree_commit.specs.declared.runs.mark.Mark.TheVariants.{Aborted};
-ghost use Rattle.tree_commit.specs.Marks.{is_lost, marks_of_activation};
+ghost use Rattle.anim_names.specs.Lists.{IsAmong};
+ghost use Rattle.run_rules.specs.declared.mark.Mark.TheVariants.{OfModel};
+ghost use Rattle.run_rules.specs.declared.mark.ModelMark.TheVariants.{Aborted};
+ghost use Rattle.run_rules.specs.Marks.{is_lost, marks_of_activation};
 ghost use Rattle.tree_commit.specs.Trees.{has_model};
 
 use crate::ends::end_model;
 use crate::standing::Standing;
 use keyframe_model::ModelSpec;
-use tree_commit::{Commit, Mark};
+use run_rules::ModelMark;
+use tree_commit::Commit;
 
 /// Appends the new marks as the commit takes the place of the active one. It takes no memory.
 pub(crate) fn abort_lost(standing: &mut Standing, active: &Commit, new: &Commit)
@@ -29,14 +31,13 @@ fn abort_one(standing: &mut Standing, model: &ModelSpec, new: &Commit)
     requires there { IsAmong model.now standing.old.active.tree.models }
     requires room { length standing.old.list.marks < standing.old.list.room }
     ensures { standing.new ≡ with_new standing.old
-        (mark_if (is_lost new.now.tree standing.old.list.marks model.now) (Aborted model.now.id new.now.number)) }
+        (mark_if (is_lost new.now.tree standing.old.list.marks model.now) (OfModel model.now.id (Aborted new.now.number))) }
 {
     if is_lost(standing, model, new) {
-        let mark = Mark::Aborted {
-            model: model.id(),
+        let what = ModelMark::Aborted {
             commit: new.number(),
         };
-        end_model(standing, model, mark);
+        end_model(standing, model, &what);
     }
 }
 

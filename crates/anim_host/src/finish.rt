@@ -1,56 +1,56 @@
 //! What finishes at a tick.
 
-ghost use Rattle.std.specs.Prelude.{◌≡◌, ℕ, ◌<◌, ◌≤◌, ◌++◌, ◌∷◌, [], true, if◌then◌else◌, filter, length, map, slice_get, unsigned_abs, vec_capacity, Some, IsTrue};
+ghost use Rattle.std.specs.Prelude.{◌≡◌, ℕ, ◌<◌, ◌≤◌, ◌++◌, ◌∷◌, [], true, if◌then◌else◌, filter, length, slice_get, unsigned_abs, vec_capacity, Some, IsTrue};
 ghost use Rattle.std.specs.List.{AllByRecursion, list_all, list_any};
 ghost use Rattle.anim_host.specs.Ticks.{finishes, group_finishes};
-ghost use Rattle.host_tables.specs.Shapes.{at_places, shape_of};
+ghost use Rattle.host_tables.specs.CommitGroups.{at_indices, commit_groups};
 ghost use Rattle.anim_timeline.specs.declared.TheConstants.{LAST_TIME};
 ghost use Rattle.anim_timeline.specs.Timelines.{IsTime};
-ghost use Rattle.tree_commit.specs.Follows.{IsAmong};
-ghost use Rattle.tree_commit.specs.Marks.{finishing_models, is_over, is_running, is_started, start_of};
+ghost use Rattle.anim_names.specs.Lists.{IsAmong};
+ghost use Rattle.run_rules.specs.Marks.{finishing_models, is_over, is_unfinished, start_of};
 ghost use Rattle.tree_commit.specs.Tables.{HasAllTimelines, has_timeline};
 ghost use Rattle.tree_commit.specs.Trees.{groups_of, has_model, members_of};
 
 use crate::models::is_over;
 use crate::standing::Standing;
 use anim_names::GroupId;
-use host_tables::Shape;
+use host_tables::CommitGroups;
 use keyframe_effect::RunState;
 use keyframe_model::ModelSpec;
 use tree_commit::{Commit, Shown};
 
-/// The places of the models that finish at the tick, which is the last one, in the order of the commit: those that run
+/// The indices of the models that finish at the tick, which is the last one, in the order of the commit: those that run
 /// and of whose group each running model is done. The list has room for all models, and no further memory is taken.
 /// Where no group finishes, this looks at each group, and at the models of those of which some run.
 pub(crate) fn finishing(
     standing: &mut Standing,
     active: &Commit,
-    shape: &Shape,
+    groups: &CommitGroups,
     tick: u64,
-    places: Vec<usize>,
+    indices: Vec<usize>,
 ) -> Vec<usize>
     requires active { active.now ≡ standing.old.active }
-    requires shape { shape.now ≡ shape_of active.now.tree.models }
+    requires groups { groups.now ≡ commit_groups active.now.tree.models }
     requires last { standing.old.last_tick ≡ tick }
     requires in_time { IsTime tick }
-    requires none { places.items ≡ [] }
-    requires room { length active.now.tree.models ≤ vec_capacity places }
-    ensures models { at_places active.now.tree.models result.items
+    requires none { indices.items ≡ [] }
+    requires room { length active.now.tree.models ≤ vec_capacity indices }
+    ensures models { at_indices active.now.tree.models result.items
         ≡ finishing_models active.now.tree standing.old.list.marks tick }
-    ensures within { AllByRecursion (λ place. place < length active.now.tree.models) result.items }
+    ensures within { AllByRecursion (λ index. index < length active.now.tree.models) result.items }
     ensures same { standing.new ≡ standing.old }
 {
-    if some_finish(standing, active, shape, tick) {
-        gather(standing, active, shape, tick, places)
+    if some_finish(standing, active, groups, tick) {
+        gather(standing, active, groups, tick, indices)
     } else {
-        places
+        indices
     }
 }
 
 // Whether some group finishes at the tick.
-fn some_finish(standing: &mut Standing, active: &Commit, shape: &Shape, tick: u64) -> bool
+fn some_finish(standing: &mut Standing, active: &Commit, groups: &CommitGroups, tick: u64) -> bool
     requires active { active.now ≡ standing.old.active }
-    requires shape { shape.now ≡ shape_of active.now.tree.models }
+    requires groups { groups.now ≡ commit_groups active.now.tree.models }
     requires last { standing.old.last_tick ≡ tick }
     requires in_time { IsTime tick }
     ensures finish { result ≡ list_any (group_finishes active.now.tree standing.old.list.marks tick) (groups_of active.now.tree) }
@@ -58,8 +58,8 @@ fn some_finish(standing: &mut Standing, active: &Commit, shape: &Shape, tick: u6
 {
     let _ = active.model_count();
     let mut found = false;
-    for index in 0..shape.group_count() {
-        found |= group_finishes(standing, active, shape, shape.group_at(index), tick);
+    for index in 0..groups.group_count() {
+        found |= group_finishes(standing, active, groups, groups.group_at(index), tick);
     }
     found
 }
@@ -68,24 +68,24 @@ fn some_finish(standing: &mut Standing, active: &Commit, shape: &Shape, tick: u6
 fn group_finishes(
     standing: &mut Standing,
     active: &Commit,
-    shape: &Shape,
+    groups: &CommitGroups,
     group: GroupId,
     tick: u64,
 ) -> bool
     requires active { active.now ≡ standing.old.active }
-    requires shape { shape.now ≡ shape_of active.now.tree.models }
+    requires groups { groups.now ≡ commit_groups active.now.tree.models }
     requires timelines_there { HasAllTimelines active.now.tree }
     requires last { standing.old.last_tick ≡ tick }
     requires in_time { IsTime tick }
     ensures finishes { result ≡ group_finishes active.now.tree standing.old.list.marks tick group }
     ensures same { standing.new ≡ standing.old }
 {
-    some_run(standing, group) && are_over(standing, active, shape.places(group), tick)
+    some_run(standing, group) && are_over(standing, active, groups.indices(group), tick)
 }
 
 // Whether a model of the group runs.
 fn some_run(standing: &Standing, group: GroupId) -> bool
-    ensures { result ≡ list_any (λ model. is_running standing.now.list.marks model.id) (members_of standing.now.active.tree group) }
+    ensures { result ≡ list_any (λ model. is_unfinished standing.now.list.marks model.id) (members_of standing.now.active.tree group) }
 {
     match standing.group_row(group) {
         None => false,
@@ -93,39 +93,39 @@ fn some_run(standing: &Standing, group: GroupId) -> bool
     }
 }
 
-// The places of the models that finish at the tick, in the order of the commit.
+// The indices of the models that finish at the tick, in the order of the commit.
 fn gather(
     standing: &mut Standing,
     active: &Commit,
-    shape: &Shape,
+    groups: &CommitGroups,
     tick: u64,
-    mut places: Vec<usize>,
+    mut indices: Vec<usize>,
 ) -> Vec<usize>
     requires active { active.now ≡ standing.old.active }
-    requires shape { shape.now ≡ shape_of active.now.tree.models }
+    requires groups { groups.now ≡ commit_groups active.now.tree.models }
     requires last { standing.old.last_tick ≡ tick }
     requires in_time { IsTime tick }
-    requires none { places.items ≡ [] }
-    requires room { length active.now.tree.models ≤ vec_capacity places }
-    ensures models { at_places active.now.tree.models result.items
+    requires none { indices.items ≡ [] }
+    requires room { length active.now.tree.models ≤ vec_capacity indices }
+    ensures models { at_indices active.now.tree.models result.items
         ≡ finishing_models active.now.tree standing.old.list.marks tick }
-    ensures within { AllByRecursion (λ place. place < length active.now.tree.models) result.items }
+    ensures within { AllByRecursion (λ index. index < length active.now.tree.models) result.items }
     ensures same { standing.new ≡ standing.old }
 {
     for index in 0..active.model_count() {
-        let is_finished = finishes(standing, active, shape, active.model_at(index), tick);
-        push_if(&mut places, is_finished, index);
+        let is_finished = finishes(standing, active, groups, active.model_at(index), tick);
+        push_if(&mut indices, is_finished, index);
     }
-    places
+    indices
 }
 
-fn push_if(places: &mut Vec<usize>, test: bool, place: usize)
-    requires { length places.old.items < vec_capacity places.old }
-    ensures items { places.new.items ≡ places.old.items ++ (if test then place ∷ [] else []) }
-    ensures room { vec_capacity places.new ≡ vec_capacity places.old }
+fn push_if(indices: &mut Vec<usize>, test: bool, index: usize)
+    requires { length indices.old.items < vec_capacity indices.old }
+    ensures items { indices.new.items ≡ indices.old.items ++ (if test then index ∷ [] else []) }
+    ensures room { vec_capacity indices.new ≡ vec_capacity indices.old }
 {
     if test {
-        places.push_reserved(place);
+        indices.push_reserved(index);
     }
 }
 
@@ -133,12 +133,12 @@ fn push_if(places: &mut Vec<usize>, test: bool, place: usize)
 fn finishes(
     standing: &mut Standing,
     active: &Commit,
-    shape: &Shape,
+    groups: &CommitGroups,
     model: &ModelSpec,
     tick: u64,
 ) -> bool
     requires active { active.now ≡ standing.old.active }
-    requires shape { shape.now ≡ shape_of active.now.tree.models }
+    requires groups { groups.now ≡ commit_groups active.now.tree.models }
     requires there { has_model active.now.tree model.now.id ≡ true }
     requires timelines_there { HasAllTimelines active.now.tree }
     requires last { standing.old.last_tick ≡ tick }
@@ -147,24 +147,24 @@ fn finishes(
     ensures same { standing.new ≡ standing.old }
 {
     standing.state(model.id()).is_unfinished()
-        && are_over(standing, active, shape.places(model.group()), tick)
+        && are_over(standing, active, groups.indices(model.group()), tick)
 }
 
-// Whether each running model at these places is done.
-fn are_over(standing: &mut Standing, active: &Commit, places: &[usize], tick: u64) -> bool
+// Whether each running model at these indices is done.
+fn are_over(standing: &mut Standing, active: &Commit, indices: &[usize], tick: u64) -> bool
     requires active { active.now ≡ standing.old.active }
-    requires places { (j place : ℕ) → slice_get places.now j ≡ Some place → place < length active.now.tree.models }
+    requires indices { (j index : ℕ) → slice_get indices.now j ≡ Some index → index < length active.now.tree.models }
     requires timelines_there { HasAllTimelines active.now.tree }
     requires last { standing.old.last_tick ≡ tick }
     requires in_time { IsTime tick }
     ensures over { result
         ≡ list_all (λ model. is_over active.now.tree tick model (start_of standing.old.list.marks model.id))
-        (filter (λ model. is_running standing.old.list.marks model.id) (at_places active.now.tree.models places.now)) }
+        (filter (λ model. is_unfinished standing.old.list.marks model.id) (at_indices active.now.tree.models indices.now)) }
     ensures same { standing.new ≡ standing.old }
 {
     let mut over = true;
-    for index in 0..places.len() {
-        over &= is_over_or_still(standing, active, active.model_at(places[index]), tick);
+    for position in 0..indices.len() {
+        over &= is_over_or_still(standing, active, active.model_at(indices[position]), tick);
     }
     over
 }
@@ -177,7 +177,7 @@ fn is_over_or_still(standing: &mut Standing, active: &Commit, model: &ModelSpec,
     requires last { standing.old.last_tick ≡ tick }
     requires in_time { IsTime tick }
     ensures over { result
-        ≡ (if is_running standing.old.list.marks model.now.id
+        ≡ (if is_unfinished standing.old.list.marks model.now.id
         then is_over active.now.tree tick model.now (start_of standing.old.list.marks model.now.id)
         else true) }
     ensures same { standing.new ≡ standing.old }

@@ -1,23 +1,27 @@
+//! The calls by which the compositor pushes and activates a commit, ticks, and reads its news. Which marks a tick
+//! makes is worked out elsewhere in this crate.
+
 ghost use Rattle.std.specs.Prelude.{◌≡◌, ◌≤◌, ℕ, [], None, Some, IfOk, OnOk, OnErr, length};
 ghost use Rattle.anim_host.specs.declared.TheConstants.{MOST_HOSTED};
-ghost use Rattle.anim_host.specs.Hosting.{HasRoomFor, after_activation, after_push, after_tick, new_hosting, shown_in};
+ghost use Rattle.anim_host.specs.Hosting.{HasRoomToPush, hosting_after_activation, hosting_after_push, hosting_after_tick, new_hosting, shown_in};
 ghost use Rattle.host_tables.specs.MarkLists.{StartsAreWithin, events_behind};
 ghost use Rattle.anim_timeline.specs.Timelines.{IsTime};
-ghost use Rattle.host_tables.specs.Blocks.{is_held_by};
+ghost use Rattle.element_anims.specs.Rows.{is_blocked_by};
 ghost use Rattle.host_tables.specs.Elements.{has_in};
-ghost use Rattle.tree_commit.specs.Follows.{Follows, TreesAgree};
-ghost use Rattle.tree_commit.specs.Marks.{blocks};
+ghost use Rattle.run_rules.specs.Follows.{Follows, TreesAgree};
+ghost use Rattle.run_rules.specs.Marks.{blocks};
 ghost use Rattle.tree_commit.specs.Trees.{empty_commit};
 
 use crate::aborts::abort_lost;
 use crate::standing::Standing;
 use crate::ticks::make_tick;
 use anim_names::{AnimEvent, ElementId, GroupId, ModelId, Property, Tree};
-use host_tables::Shape;
+use element_samples::StartTable;
+use host_tables::CommitGroups;
 use std::alloc::{AllocError, Global};
 use std::marker::Model;
 use std::sync::Arc;
-use tree_commit::{Commit, Shown, StartTable};
+use tree_commit::{Commit, Shown};
 
 /// What the compositor keeps of its animations: the active and the pending commit, every mark that was made, and the
 /// tables that say quickly what these say: a row for each model of either commit and for each group of the active one,
@@ -27,8 +31,8 @@ use tree_commit::{Commit, Shown, StartTable};
 pub struct AnimHost {
     alloc: Global,
     standing: Standing,
-    shape: Shape,
-    next: Option<Shape>,
+    groups: CommitGroups,
+    next: Option<CommitGroups>,
     models: u32,
 }
 
@@ -37,7 +41,7 @@ impl Drop for AnimHost {
         let AnimHost {
             alloc: _,
             standing: _standing,
-            shape: _shape,
+            groups: _groups,
             next: _next,
             models: _,
         } = self;
@@ -46,7 +50,7 @@ impl Drop for AnimHost {
 
 impl Model for AnimHost {
     ghost use Rattle.anim_host.specs.Hosting.{Hosting};
-    ghost use Rattle.anim_host.specs.Standing.{GoTogether};
+    ghost use Rattle.anim_host.specs.Standing.{GroupsGoWithCommits};
 
     ghost Value = { Hosting };
 
@@ -59,7 +63,7 @@ impl Model for AnimHost {
       models = h.models;
     } };
 
-    ghost invariant = { λ h. GoTogether h.standing h.shape h.next };
+    ghost invariant = { λ h. GroupsGoWithCommits h.standing h.groups h.next };
 }
 
 impl AnimHost {
@@ -72,7 +76,7 @@ impl AnimHost {
         Ok(AnimHost {
             alloc,
             standing: roomy(alloc, models)?,
-            shape: Shape::empty(alloc),
+            groups: CommitGroups::empty(alloc),
             next: None,
             models,
         })
@@ -82,11 +86,11 @@ impl AnimHost {
     pub fn push_commit(&mut self, commit: &Arc<Commit>) -> Result<(), AllocError>
         requires free { self.old.pending ≡ None }
         requires follows { Follows self.old.active.tree commit.now.value.tree self.old.marks }
-        requires room { HasRoomFor self.old commit.now.value }
-        ensures ok { OnOk result (self.new ≡ after_push self.old commit.now.value) }
+        requires room { HasRoomToPush self.old commit.now.value }
+        ensures ok { OnOk result (self.new ≡ hosting_after_push self.old commit.now.value) }
         ensures err { OnErr result (self.new ≡ self.old) }
     {
-        let next = Shape::of(self.alloc, commit)?;
+        let next = CommitGroups::of(self.alloc, commit)?;
         self.standing.push_commit(commit)?;
         self.next = Some(next);
         Ok(())
@@ -97,7 +101,7 @@ impl AnimHost {
     pub fn activate(&mut self, active: &Commit, pending: &Commit)
         requires active { active.now ≡ self.old.active }
         requires pending { self.old.pending ≡ Some pending.now }
-        ensures activated { self.new ≡ after_activation self.old pending.now }
+        ensures activated { self.new ≡ hosting_after_activation self.old pending.now }
 
         // Of every host: a model of both commits is one, and a timeline of both has one zero.
         ensures agree { TreesAgree active.now.tree pending.now.tree }
@@ -105,8 +109,8 @@ impl AnimHost {
         abort_lost(&mut self.standing, active, pending);
         self.standing.vouch();
         self.standing.take_over(pending);
-        if let Some(shape) = self.next.take() {
-            self.shape = shape;
+        if let Some(groups) = self.next.take() {
+            self.groups = groups;
         }
     }
 
@@ -116,14 +120,14 @@ impl AnimHost {
         requires active { active.now ≡ self.old.active }
         requires later { self.old.last_tick ≤ time }
         requires in_time { IsTime time }
-        ensures ok { OnOk result (self.new ≡ after_tick self.old time) }
+        ensures ok { OnOk result (self.new ≡ hosting_after_tick self.old time) }
         ensures err { OnErr result (self.new ≡ self.old) }
     {
         make_tick(
             self.alloc,
             &mut self.standing,
             active,
-            &self.shape,
+            &self.groups,
             &self.next,
             time,
         )
@@ -146,7 +150,7 @@ impl AnimHost {
     /// The group that blocks the property of the element, if one does: a model of it runs, and one of its models that
     /// started is of that property of that element.
     pub fn blocked_by(&self, element: ElementId, property: Property) -> Option<GroupId>
-        ensures { (group : ℕ) → is_held_by group result ≡ blocks self.now.marks group element property }
+        ensures { (group : ℕ) → is_blocked_by group result ≡ blocks self.now.marks group element property }
     {
         self.standing.blocked_by(element, property)
     }

@@ -4,7 +4,7 @@ ghost use Rattle.std.specs.Prelude.{◌≡◌, ◌≤◌, ◌-ℤ◌, unsigned_a
 ghost use Rattle.anim_timeline.specs.declared.TheConstants.{LAST_TIME};
 ghost use Rattle.anim_timeline.specs.Timelines.{IsTime};
 ghost use Rattle.micro_time.specs.Timings.{is_done};
-ghost use Rattle.tree_commit.specs.Marks.{is_over, recorded_start};
+ghost use Rattle.run_rules.specs.Marks.{is_over, recorded_start};
 ghost use Rattle.tree_commit.specs.Tables.{has_timeline};
 ghost use Rattle.tree_commit.specs.Trees.{time_of};
 

@@ -1,37 +1,42 @@
+//! The host's data after each single mark: commits, marks, and the tables of rows that agree with both. Which mark
+//! comes next is decided by its callers.
+
 ghost use Rattle.std.specs.Prelude.{◌≡◌, ◌≢◌, ◌++◌, not, ◌≤◌, ◌<◌, ◌+◌, ℕ, [], ◌∷◌, length, List, map, nat_eq, unsigned_abs, IfSome, true, false, None, Some, IfOk, OnOk, OnErr, option_map, if◌then◌else◌};
 ghost use Rattle.std.specs.List.{IsDistinct, list_any};
 ghost use Rattle.anim_timeline.specs.declared.TheConstants.{LAST_TIME};
-ghost use Rattle.host_tables.specs.MarkLists.{StartIsWithin};
-ghost use Rattle.anim_host.specs.Fits.{AreSettled, IsOf, IsThereIfRunning, MarksFit};
-ghost use Rattle.host_tables.specs.Blocks.{IsReleased, is_held_by};
+ghost use Rattle.anim_host.specs.Fits.{AreSettled, IsThereIfUnfinished, MarksFitModels, begun_of};
+ghost use Rattle.element_anims.specs.Rows.{is_blocked_by};
+ghost use Rattle.element_anims.specs.Elements.{IsUnblocked};
 ghost use Rattle.host_tables.specs.Elements.{has_in};
 ghost use Rattle.anim_names.specs.declared.lane.Tree as lane;
 ghost use Rattle.element_anims.specs.Elements.{is_present};
-ghost use Rattle.tree_commit.specs.declared.runs.mark.Mark.TheVariants.{Started};
+ghost use Rattle.run_rules.specs.declared.mark.Mark.TheVariants.{OfModel};
+ghost use Rattle.run_rules.specs.declared.mark.ModelMark.TheVariants.{Started};
 ghost use Rattle.host_tables.specs.Groups.{group_at, group_row_of};
 ghost use Rattle.host_tables.specs.Rows.{marked_at, row_at, says_over};
-ghost use Rattle.anim_host.specs.Standing.{IsOver, Stood, holds_group, with_new};
+ghost use Rattle.anim_host.specs.Standing.{IsOver, Stood, pending_has_group, with_new};
 ghost use Rattle.host_tables.specs.States.{FinishesStarted, as_marked, is_among, is_found_over, row_for, shown_at, state_of};
 ghost use Rattle.keyframe_effect.specs.declared.state.RunState.TheVariants.{Waiting};
 ghost use Rattle.keyframe_effect.specs.States as state;
-ghost use Rattle.keyframe_effect.specs.States.{is_unfinished};
 ghost use Rattle.keyframe_model.specs.Models.{Spec, property_of};
-ghost use Rattle.tree_commit.specs.declared.runs.mark.Mark as declared;
-ghost use Rattle.tree_commit.specs.Follows.{Follows, IsAmong};
-ghost use Rattle.tree_commit.specs.Frames.{shown_by};
-ghost use Rattle.tree_commit.specs.Marks.{aborts, blocks, ends, is_ended, is_group_running, is_over, is_ready, is_running, is_started, model_of, start_of, starts_in};
+ghost use Rattle.run_rules.specs.declared.mark.Mark as declared;
+ghost use Rattle.run_rules.specs.Follows.{Follows};
+ghost use Rattle.anim_names.specs.Lists.{IsAmong};
+ghost use Rattle.run_rules.specs.Frames.{shown_by};
+ghost use Rattle.run_rules.specs.Marks.{blocks, is_abort, is_end, is_ended, is_group_unfinished, is_over, is_ready, is_unfinished, is_started, start_of, starts_in};
 ghost use Rattle.tree_commit.specs.Trees.{empty_commit, has_element, has_model};
 
 use anim_names::{ElementId, GroupId, ModelId, Property, Tree};
 use element_anims::ElementAnims;
-use host_tables::elements::{self, announce, hold, release, swap};
+use host_tables::elements::{self, announce, block, swap};
 use host_tables::{GroupTable, MarkList, RowTable, advanced, shown};
 use keyframe_effect::{GroupRow, RunState};
 use keyframe_model::ModelSpec;
+use run_rules::{Begun, ModelMark};
 use std::alloc::{AllocError, Global};
 use std::marker::Model;
 use std::sync::Arc;
-use tree_commit::{Commit, Mark, Shown};
+use tree_commit::{Commit, Shown};
 
 /// The active and the pending commit, all marks, the time of the last tick, and the tables that say of each model of
 /// these commits how far it has come, and of each group of the active one how many of its models wait and run.
@@ -97,13 +102,6 @@ impl Standing {
         })
     }
 
-    /// The pending commit, where there is one.
-    pub(crate) fn pending(&self) -> &Option<Arc<Commit>>
-        ensures { option_map (λ commit. commit.value) result.now ≡ self.now.pending }
-    {
-        &self.pending
-    }
-
     /// The list of marks.
     pub(crate) fn marks(&self) -> &MarkList
         ensures { result.now ≡ self.now.list }
@@ -121,7 +119,7 @@ impl Standing {
     /// How far a model of the active commit has come.
     pub(crate) fn state(&self, id: ModelId) -> RunState
         requires { has_model self.now.active.tree id ≡ true }
-        ensures runs { is_unfinished result ≡ is_running self.now.list.marks id }
+        ensures runs { state.is_unfinished result ≡ is_unfinished self.now.list.marks id }
         ensures ended { state.is_ended result ≡ is_ended self.now.list.marks id }
         ensures shown { shown_at result ≡ shown_by self.now.list.marks id }
         ensures within { IfSome (shown_at result) (λ s. unsigned_abs s.start ≤ LAST_TIME) }
@@ -165,7 +163,7 @@ impl Standing {
 
     /// The group that blocks the property of the element, if one does.
     pub(crate) fn blocked_by(&self, element: ElementId, property: Property) -> Option<GroupId>
-        ensures { (group : ℕ) → is_held_by group result ≡ blocks self.now.list.marks group element property }
+        ensures { (group : ℕ) → is_blocked_by group result ≡ blocks self.now.list.marks group element property }
     {
         self.elements.blocked_by(element, property)
     }
@@ -177,22 +175,22 @@ impl Standing {
         self.groups.row(group)
     }
 
-    /// Whether the group may start. `pending_holds` says whether a pending commit has a model of it.
-    pub(crate) fn is_ready(&self, group: GroupId, pending_holds: bool) -> bool
-        requires holds { pending_holds ≡ holds_group self.now.pending group }
+    /// Whether the group may start. `pending_has` says whether a pending commit has a model of it.
+    pub(crate) fn is_ready(&self, group: GroupId, pending_has: bool) -> bool
+        requires pending { pending_has ≡ pending_has_group self.now.pending group }
         requires settled { AreSettled self.now.active.tree.models self.now.list.marks }
         ensures { result ≡ is_ready self.now.active.tree self.now.pending self.now.list.marks group }
     {
         match self.groups.row(group) {
             None => false,
-            Some(row) => row.ready(&self.elements, pending_holds),
+            Some(row) => row.ready(&self.elements, pending_has),
         }
     }
 
     /// Does nothing. What is so of every value of the type, its clauses say of this one.
     pub(crate) fn vouch(&self)
         ensures differ { IsDistinct nat_eq (map (λ model. model.id) self.now.active.tree.models) }
-        ensures fits { MarksFit self.now.active.tree.models self.now.list.marks }
+        ensures fits { MarksFitModels self.now.active.tree.models self.now.list.marks }
         ensures follows { IfSome self.now.pending (λ commit. Follows self.now.active.tree commit.tree self.now.list.marks) }
     {
         let _ = self.active.model_count();
@@ -234,48 +232,47 @@ impl Standing {
         requires there { IsAmong model.now self.old.active.tree.models }
         requires present { has_element self.old.active.tree model.now.element ≡ true }
         requires alive { is_ended self.old.list.marks model.now.id ≡ false }
-        requires whole { list_any (starts_in model.now.group) self.old.list.marks ≡ is_group_running self.old.list.marks model.now.group }
+        requires whole { list_any (starts_in model.now.group) self.old.list.marks ≡ is_group_unfinished self.old.list.marks model.now.group }
         requires free { (other : ℕ) → other ≢ model.now.group
             → blocks self.old.list.marks other model.now.element (property_of model.now) ≡ false }
-        ensures { self.new ≡ with_new self.old (Started model.now.id model.now.group model.now.element (property_of model.now) at start ∷ []) }
+        ensures { self.new ≡ with_new self.old (OfModel model.now.id (Started (begun_of model.now at start)) ∷ []) }
     {
         let _ = self.active.model_count();
+        let id = model.id();
+        let what = ModelMark::Started(begun(model, at, start));
         let order = self.marks.next_order();
-        let mark = started(model, at, start);
-        let before = self.rows.state(model.id());
-        self.rows.advance(&mark, order);
-        let after = advanced(before, &mark, order);
+        let before = self.rows.state(id);
+        self.rows.advance(id, &what, order);
+        let after = advanced(before, &what, order);
         self.groups.advance(model.group(), before, after);
-        hold(
+        block(
             &mut self.elements,
             model.element(),
             model.property(),
             model.group(),
         );
-        self.marks.push(mark);
+        self.marks.push(id, &what);
     }
 
     /// A model of the active commit ends: its mark goes behind the others. Where it is the last of its group that runs,
     /// the group blocks nothing any more.
-    pub(crate) fn end(&mut self, model: &ModelSpec, mark: Mark, is_last: bool)
+    pub(crate) fn end(&mut self, model: &ModelSpec, what: &ModelMark, is_last: bool)
         requires room { length self.old.list.marks < self.old.list.room }
         requires there { IsAmong model.now self.old.active.tree.models }
-        requires of { IsOf mark model.now }
-        requires ends { (group : ℕ) → starts_in group mark ≡ false }
-        requires within { StartIsWithin mark }
-        requires started { ends (model_of mark) mark ≡ true → aborts (model_of mark) mark ≡ false
-            → is_started self.old.list.marks (model_of mark) ≡ true }
-        requires last { is_group_running (self.old.list.marks ++ mark ∷ []) model.now.group ≡ not is_last }
-        ensures { self.new ≡ with_new self.old (mark ∷ []) }
+        requires ends { is_end what.now ≡ true }
+        requires started { is_abort what.now ≡ false → is_started self.old.list.marks model.now.id ≡ true }
+        requires last { is_group_unfinished (self.old.list.marks ++ OfModel model.now.id what.now ∷ []) model.now.group ≡ not is_last }
+        ensures { self.new ≡ with_new self.old (OfModel model.now.id what.now ∷ []) }
     {
         let _ = self.active.model_count();
+        let id = model.id();
         let order = self.marks.next_order();
-        let before = self.rows.state(model.id());
-        self.rows.advance(&mark, order);
-        let after = advanced(before, &mark, order);
+        let before = self.rows.state(id);
+        self.rows.advance(id, what, order);
+        let after = advanced(before, what, order);
         self.groups.advance(model.group(), before, after);
-        release_if(is_last, &mut self.elements, model.element(), model.group());
-        self.marks.push(mark);
+        unblock_if(is_last, &mut self.elements, model.element(), model.group());
+        self.marks.push(id, what);
     }
 
     /// The news are cleared: all marks were told.
@@ -310,8 +307,8 @@ impl Standing {
     /// Makes the pending commit the active one, which has each model that runs. It takes no memory.
     pub(crate) fn take_over(&mut self, commit: &Commit)
         requires pending { self.old.pending ≡ Some commit.now }
-        requires running { (mark : declared.Mark) → IsAmong mark self.old.list.marks
-            → IsThereIfRunning commit.now.tree.models self.old.list.marks mark }
+        requires unfinished { (mark : declared.Mark) → IsAmong mark self.old.list.marks
+            → IsThereIfUnfinished commit.now.tree.models self.old.list.marks mark }
         ensures { self.new ≡ record self.old { active = commit.now; pending = None } }
     {
         let _ = self.active.model_count();
@@ -325,12 +322,11 @@ impl Standing {
     }
 }
 
-// The mark of the model's start.
-fn started(model: &ModelSpec, at: u64, start: i64) -> Mark
-    ensures { result ≡ Started model.now.id model.now.group model.now.element (property_of model.now) at start }
+// How the model starts.
+fn begun(model: &ModelSpec, at: u64, start: i64) -> Begun
+    ensures { result ≡ begun_of model.now at start }
 {
-    Mark::Started {
-        model: model.id(),
+    Begun {
         group: model.group(),
         element: model.element(),
         property: model.property(),
@@ -340,13 +336,13 @@ fn started(model: &ModelSpec, at: u64, start: i64) -> Mark
 }
 
 // The group blocks nothing of the element any more, where the test says so.
-fn release_if(test: bool, elements: &mut ElementAnims, element: ElementId, group: GroupId)
-    ensures freed { test ≡ true → IsReleased element group elements.old elements.new }
+fn unblock_if(test: bool, elements: &mut ElementAnims, element: ElementId, group: GroupId)
+    ensures freed { test ≡ true → IsUnblocked element group elements.old elements.new }
     ensures kept { test ≡ false → elements.new ≡ elements.old }
     ensures presence { (t : lane.Tree) (e : ℕ) → is_present elements.new t e ≡ is_present elements.old t e }
 {
     if test {
-        release(elements, element, group);
+        elements.unblock_all(element, group);
     }
 }
 

@@ -1,3 +1,5 @@
+//! The entries of the journal: which lane made a call of the board, in which of its steps, and what the call did.
+
 use crate::Lane;
 
 /// What a call of the exchange board did.

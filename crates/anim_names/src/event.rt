@@ -1,3 +1,5 @@
+//! The events that go from the compositor to main, each about one keyframe model.
+
 use crate::{GroupId, ModelId};
 
 /// What the compositor reports of a keyframe model to main.

@@ -1,3 +1,5 @@
+//! The two lanes of a run, and the two trees that the compositor's lane has.
+
 /// One of the two threads. Main edits its tree and commits it; the compositor pulls commits and draws frames.
 #[derive(Clone, Copy, PartialEq, Eq)]
 pub enum Lane {

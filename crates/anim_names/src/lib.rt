@@ -10,13 +10,17 @@ pub mod event;
 pub mod id;
 pub mod lane;
 pub mod limit;
+pub mod per_property;
 pub mod progress;
 pub mod property;
+pub mod version;
 
 pub use entry::{Entry, EntryKind};
 pub use event::AnimEvent;
 pub use id::{ElementId, GroupId, ModelId, TimelineId};
 pub use lane::{Lane, Tree};
 pub use limit::LimitName;
+pub use per_property::PerProperty;
 pub use progress::ONE;
-pub use property::Property;
+pub use property::{PROPERTIES, Property};
+pub use version::Version;

@@ -1,3 +1,5 @@
+//! What of an element a keyframe model may animate.
+
 /// What of an element a keyframe model animates.
 #[derive(Clone, Copy, PartialEq, Eq)]
 pub enum Property {
@@ -6,3 +8,6 @@ pub enum Property {
     /// Where and in what shape the element is drawn: a list of operations.
     Transform,
 }
+
+/// Every property, in the order in which a row shows their values.
+pub const PROPERTIES: [Property; 2] = [Property::Opacity, Property::Transform];

@@ -1,3 +1,6 @@
+//! A timeline with its zero in range, and the time that it shows at a tick. Which models follow it is no matter of a
+//! timeline.
+
 ghost use Rattle.std.specs.Prelude.{◌≡◌, ◌≤◌, unsigned_abs};
 ghost use Rattle.anim_timeline.specs.Timelines.{IsTime, timeline_of, timeline_time};
 

@@ -3,7 +3,7 @@ use Rattle.std.proofs.Common.{◌≡◌, ◌+◌, ◌*◌, ◌≤◌, [], length
 use Rattle.anim_names.specs.declared.limit.TheConstants.{MOST_MODELS}
 use Rattle.frame_exchange.specs.Journals.{Exchange}
 use Rattle.frame_exchange.specs.Sides.{CompositorState, MainState, new_compositor, new_main}
-use Rattle.tree_commit.specs.Scripts.{IsWellFormed, ScriptLists}
+use Rattle.run_rules.specs.Scripts.{IsWellFormed, ScriptLists}
 use Rattle.word_machine.specs.Moments.{MayReplay}
 use Rattle.word_machine.proofs.UnderWay.{few_models}
 
@@ -17,7 +17,7 @@ may_replay script well main compositor board is_main is_compositor no_entry room
       new_compositor = is_compositor ∙ ap new_compositor (sym models);
       no_entry = no_entry;
       entry_room = room;
-      event_room = omega (arith, few, events);
+      queue_room = omega (arith, few, events);
       batch_room = omega (arith, few, batches);
       models = omega (arith, few, models);
     }

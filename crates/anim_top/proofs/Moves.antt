@@ -1,9 +1,8 @@
 -- Bytes that move in several calls, and a count of faults over them.
-use Rattle.std.proofs.Common.{◌≡◌, ℕ, ◌+◌, ◌-◌, ◌≤◌, List, [], ◌++◌, length, take, drop, Option, Some, None, Result, Ok, Err, OnErr, refl, ap, sym, ◌∙◌, append_assoc, length-append, arith, inl, inr}
-use Rattle.std.specs.Prelude.{IfSome}
+use Rattle.std.proofs.Common.{◌≡◌, ℕ, ◌+◌, ◌-◌, ◌≤◌, List, [], ◌++◌, length, take, drop, Option, Some, None, ap, sym, ◌∙◌, append_assoc, length-append, arith}
 use Rattle.std.proofs.Math.Seq.{take-add}
 use Rattle.std.proofs.lemmas.List.{append-nil, take_all, length-drop}
-use Rattle.edge_io.specs.Edges.{Gave, Took, HasRisen}
+use Rattle.edge_io.specs.Edges.{Gave, Took}
 use Rattle.anim_top.specs.Outside.{HasGiven, most_read}
 
 pub Gave-then : (a b c : Option (List ℕ)) (x y : List ℕ) → Gave a b x → Gave b c y → Gave a c (x ++ y)
@@ -11,16 +10,6 @@ Gave-then None b c x y p q = tt
 Gave-then (Some a) None c x y p q = absurd p
 Gave-then (Some a) (Some b) None x y p q = absurd q
 Gave-then (Some a) (Some b) (Some c) x y p q = p ∙ ap (λ (rest : List ℕ). x ++ rest) q ∙ sym (append_assoc x y c)
-
-pub Gave-nothing : (a : Option (List ℕ)) → Gave a a []
-Gave-nothing None = tt
-Gave-nothing (Some a) = refl
-
--- a source that has nothing left gave all its bytes
-pub gave_all : (a b : Option (List ℕ)) (x : List ℕ) → Gave a b x → IfSome b (λ rest. rest ≡ []) → IfSome a (λ all. all ≡ x)
-gave_all None b x p e = tt
-gave_all (Some a) None x p e = absurd p
-gave_all (Some a) (Some b) x p e = p ∙ (ap (λ (rest : List ℕ). x ++ rest) e ∙ append-nil x)
 
 pub Took-then : (a b c : Option (List ℕ)) (x y : List ℕ) → Took a b x → Took b c y → Took a c (x ++ y)
 Took-then a b None x y p q = tt
@@ -31,10 +20,6 @@ Took-then (Some a) (Some b) (Some c) x y p q = q ∙ (ap (λ (front : List ℕ).
 pub Took-nothing : (a : Option (List ℕ)) → Took a a []
 Took-nothing None = tt
 Took-nothing (Some a) = sym (append-nil a)
-
-pub HasRisen-before : (a b c : ℕ) → a ≤ b → HasRisen b c → HasRisen a c
-HasRisen-before a b c le (inl rose) = inl (omega arith)
-HasRisen-before a b c le (inr last) = inr last
 
 -- what was written before, and a front of what is left
 pub take-+ : (text : List ℕ) (count n : ℕ) → take (count + n) text ≡ take count text ++ take n (take (length text - count) (drop count text))
@@ -49,7 +34,3 @@ HasGiven-then a b c bytes part p q few = record {
   given = Gave-then a b c bytes part p q;
   few = rw (length-append bytes part) few;
 }
-
-pub on_err : {T E P : Type 0} (r : Result T E) → P → OnErr r P
-on_err (Ok value) p = tt
-on_err (Err error) p = p

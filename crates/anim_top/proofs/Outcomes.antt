@@ -1,8 +1,7 @@
 -- What an answer that was written whole means for the bytes that were read.
-use Rattle.std.proofs.Common.{◌≡◌, ◌≢◌, ℕ, ◌<◌, ◌≤◌, Bool, true, false, List, length, length-append, Option, Some, None, Result, Ok, Err, refl, ap, sym, subst, ◌∙◌, inl, inr, arith}
+use Rattle.std.proofs.Common.{◌≡◌, ◌≢◌, ℕ, ◌<◌, ◌≤◌, List, length, length-append, Option, Some, None, Result, Ok, Err, refl, ap, sym, subst, ◌∙◌, inl, inr, arith}
 use Rattle.std.specs.Prelude.{IfOk, IfSome}
-use Rattle.std.specs.Option.{option_eq}
-use Rattle.std.proofs.lemmas.Bool.{cases_lt, false≢true}
+use Rattle.std.proofs.lemmas.Bool.{cases_lt}
 use Rattle.edge_io.specs.Edges.{HasRisen, Took}
 use Rattle.frame_script.specs.declared.TheConstants.{MOST_BYTES}
 use Rattle.frame_script.specs.declared.cause.Cause.{Cause}
@@ -12,35 +11,32 @@ use Rattle.frame_script.specs.declared.fault.ScriptFault.TheVariants as fault
 use Rattle.frame_script.specs.Texts.{IsRefusedAt, IsWhy}
 use Rattle.frame_script.proofs.Leads.{not_spelled_and_refused, one_refusal}
 use Rattle.anim_names.specs.declared.lane.Lane.{Lane}
-use Rattle.tree_commit.specs.Scripts.{IsWordOf, ScriptLists}
+use Rattle.run_rules.specs.Scripts.{IsWordOf, ScriptLists}
 use Rattle.word_machine.specs.Laws.{KeepsLaws}
-use Rattle.anim_top.specs.declared.arguments.Command.{Command}
-use Rattle.anim_top.specs.declared.arguments.Command.TheVariants.{Run, Replay, Gen, Load}
-use Rattle.anim_top.specs.Commands.{plain}
 use Rattle.anim_top.specs.declared.status.Status.{Status}
 use Rattle.anim_top.specs.declared.status.Status.TheVariants.{Done, Usage, Refused, ReadFault, WriteFault, NoMemory}
-use Rattle.anim_top.specs.Outside.{AnswersBytes, FoundWord, HasGiven, IsAnswerTo, IsRefused, IsReported, IsWritten, Reads, RefusesAs, Serves, WordsOf}
+use Rattle.anim_top.specs.Outside.{AnswersBytes, FoundWord, HasGiven, IsAnswerTo, IsRefused, IsWritten, IsWrittenOf, Reads, RefusesAs, Serves, TextsOf}
 
 -- ---- what was written
 
-module _ (words : WordsOf) (left after taken took : Option (List ℕ)) (bytes : List ℕ) (status : Status) (text : List ℕ) (read : Reads left after bytes) where
-  pub is_reported : Took taken took text → IsAnswerTo words bytes status text → status ≡ Done → IsReported words left after taken took
-  is_reported written (inl answer) done = record {
+module _ (texts : TextsOf) (left after taken took : Option (List ℕ)) (bytes : List ℕ) (status : Status) (text : List ℕ) (read : Reads left after bytes) where
+  pub is_written_of : Took taken took text → IsAnswerTo texts bytes status text → status ≡ Done → IsWrittenOf texts left after taken took
+  is_written_of written (inl answer) done = record {
     bytes = bytes;
     script = answer.script;
-    word = answer.word;
+    text = text;
     read = read.given;
     whole = read.whole answer.spelled.short;
     spelled = answer.spelled;
-    of_word = answer.of_word;
-    written = subst (λ (t : List ℕ). Took taken took t) answer.text_is written;
+    of_script = answer.of_script;
+    written = written;
   }
-  is_reported written (inr answer) done = absurd (refused-not_done answer.number answer.cause (sym answer.status_is ∙ done))
+  is_written_of written (inr answer) done = absurd (refused-not_done answer.number answer.cause (sym answer.status_is ∙ done))
     where
       refused-not_done : (number : ℕ) (cause : Cause) → Refused number cause ≡ Done → ⊥
       refused-not_done number cause e = cc
 
-  pub is_refused : Took taken took text → IsAnswerTo words bytes status text → (number : ℕ) (cause : Cause) → status ≡ Refused number cause → IsRefused left after taken took number cause
+  pub is_refused : Took taken took text → IsAnswerTo texts bytes status text → (number : ℕ) (cause : Cause) → status ≡ Refused number cause → IsRefused left after taken took number cause
   is_refused written (inl answer) number cause refused = absurd (done-not_refused (sym answer.status_is ∙ refused))
     where
       done-not_refused : Done ≡ Refused number cause → ⊥
@@ -65,12 +61,12 @@ module _ (words : WordsOf) (left after taken took : Option (List ℕ)) (bytes : 
 too_long_at : (bytes : List ℕ) → MOST_BYTES < length bytes → IsRefusedAt bytes 0 TooLong
 too_long_at bytes long = inl (record { long = long; number_is = refl; cause_is = refl })
 
-answers_same : (words : WordsOf) (bytes : List ℕ) (status : Status) (text : List ℕ) → IsAnswerTo words bytes status text → AnswersBytes status bytes
-answers_same words bytes status text (inl answer) = record {
+answers_same : (texts : TextsOf) (bytes : List ℕ) (status : Status) (text : List ℕ) → IsAnswerTo texts bytes status text → AnswersBytes status bytes
+answers_same texts bytes status text (inl answer) = record {
   spelled = λ script spelled. inl answer.status_is;
   refused = λ number cause refused. absurd (not_spelled_and_refused bytes answer.script number cause answer.spelled refused);
 }
-answers_same words bytes status text (inr answer) = record {
+answers_same texts bytes status text (inr answer) = record {
   spelled = λ script spelled. absurd (not_spelled_and_refused bytes script answer.number answer.cause spelled answer.refused);
   refused = λ number cause refused.
       let same = one_refusal bytes answer.number number answer.cause cause answer.refused refused in
@@ -78,10 +74,10 @@ answers_same words bytes status text (inr answer) = record {
 }
 
 -- Too many bytes are refused alike, whichever of them were read.
-answers_long : (words : WordsOf) (all bytes : List ℕ) (status : Status) (text : List ℕ) → MOST_BYTES < length all → MOST_BYTES < length bytes → IsAnswerTo words bytes status text → AnswersBytes status all
-answers_long words all bytes status text long_all long (inl answer) =
+answers_long : (texts : TextsOf) (all bytes : List ℕ) (status : Status) (text : List ℕ) → MOST_BYTES < length all → MOST_BYTES < length bytes → IsAnswerTo texts bytes status text → AnswersBytes status all
+answers_long texts all bytes status text long_all long (inl answer) =
     absurd (not_spelled_and_refused bytes answer.script 0 TooLong answer.spelled (too_long_at bytes long))
-answers_long words all bytes status text long_all long (inr answer) = record {
+answers_long texts all bytes status text long_all long (inr answer) = record {
   spelled = λ script spelled. absurd (not_spelled_and_refused all script 0 TooLong spelled (too_long_at all long_all));
   refused = λ number cause refused.
       let here = one_refusal bytes answer.number 0 answer.cause TooLong answer.refused (too_long_at bytes long) in
@@ -89,22 +85,22 @@ answers_long words all bytes status text long_all long (inr answer) = record {
       inl (answer.status_is ∙ ap (λ n. Refused n answer.cause) (here.0 ∙ there.0) ∙ ap (Refused number) (here.1 ∙ there.1));
 }
 
-pub is_answer : (words : WordsOf) (left after : Option (List ℕ)) (bytes : List ℕ) (status : Status) (text : List ℕ) → Reads left after bytes → IsAnswerTo words bytes status text → IfSome left (AnswersBytes status)
-is_answer words None after bytes status text read answer = tt
-is_answer words (Some all) None bytes status text read answer = absurd read.given
-is_answer words (Some all) (Some rest) bytes status text read answer =
+pub is_answer : (texts : TextsOf) (left after : Option (List ℕ)) (bytes : List ℕ) (status : Status) (text : List ℕ) → Reads left after bytes → IsAnswerTo texts bytes status text → IfSome left (AnswersBytes status)
+is_answer texts None after bytes status text read answer = tt
+is_answer texts (Some all) None bytes status text read answer = absurd read.given
+is_answer texts (Some all) (Some rest) bytes status text read answer =
     elim (cases_lt MOST_BYTES (length bytes)) [
       | inl long ↦
           let longer : MOST_BYTES < length all = rw read.given (omega (arith, length-append bytes rest)) in
-          answers_long words all bytes status text longer long answer
-      | inr short ↦ subst (λ (b : List ℕ). AnswersBytes status b) (sym (read.whole short)) (answers_same words bytes status text answer)
+          answers_long texts all bytes status text longer long answer
+      | inr short ↦ subst (λ (b : List ℕ). AnswersBytes status b) (sym (read.whole short)) (answers_same texts bytes status text answer)
     ]
 
 -- ---- a command that reads a script
 
-no_fault : (words : WordsOf) (bytes : List ℕ) (status : Status) (text : List ℕ) → IsAnswerTo words bytes status text → (status ≢ Usage) × (status ≢ ReadFault) × (status ≢ WriteFault) × (status ≢ NoMemory)
-no_fault words bytes status text (inl answer) = let is = answer.status_is in (λ e. cc, λ e. cc, λ e. cc, λ e. cc)
-no_fault words bytes status text (inr answer) = let is = answer.status_is in (λ e. cc, λ e. cc, λ e. cc, λ e. cc)
+no_fault : (texts : TextsOf) (bytes : List ℕ) (status : Status) (text : List ℕ) → IsAnswerTo texts bytes status text → (status ≢ Usage) × (status ≢ ReadFault) × (status ≢ WriteFault) × (status ≢ NoMemory)
+no_fault texts bytes status text (inl answer) = let is = answer.status_is in (λ e. cc, λ e. cc, λ e. cc, λ e. cc)
+no_fault texts bytes status text (inr answer) = let is = answer.status_is in (λ e. cc, λ e. cc, λ e. cc, λ e. cc)
 
 no_memory_answers : (left : Option (List ℕ)) → IfSome left (AnswersBytes NoMemory)
 no_memory_answers None = tt
@@ -114,9 +110,9 @@ no_memory_answers (Some all) = record { spelled = λ script spelled. inr refl; r
 pub given_of : {left after : Option (List ℕ)} {bytes : List ℕ} → Reads left after bytes → HasGiven left after
 given_of {bytes = bytes} read = record { bytes = bytes; given = read.given; few = read.few }
 
-module _ {Sink : Type 0} {words : WordsOf} {left after : Option (List ℕ)} {read_faults read_faults_after : ℕ} where
+module _ {Sink : Type 0} {texts : TextsOf} {left after : Option (List ℕ)} {read_faults read_faults_after : ℕ} where
   pub serves_fault : {sink : Sink} {taken : Option (List ℕ)} {faults : ℕ} → HasGiven left after → HasRisen read_faults read_faults_after → read_faults ≤ read_faults_after
-      → Serves words left after read_faults read_faults_after sink sink taken taken faults faults ReadFault
+      → Serves texts left after read_faults read_faults_after sink sink taken taken faults faults ReadFault
   serves_fault given risen counts = record {
     no_usage = λ e. cc;
     done = λ e. absurd cc;
@@ -130,7 +126,7 @@ module _ {Sink : Type 0} {words : WordsOf} {left after : Option (List ℕ)} {rea
   }
 
   pub serves_no_memory : {sink : Sink} {taken : Option (List ℕ)} {faults : ℕ} → HasGiven left after → read_faults ≤ read_faults_after
-      → Serves words left after read_faults read_faults_after sink sink taken taken faults faults NoMemory
+      → Serves texts left after read_faults read_faults_after sink sink taken taken faults faults NoMemory
   serves_no_memory given counts = record {
     no_usage = λ e. cc;
     done = λ e. absurd cc;
@@ -144,24 +140,24 @@ module _ {Sink : Type 0} {words : WordsOf} {left after : Option (List ℕ)} {rea
   }
 
   pub serves_answer : {sink sink_after : Sink} {taken took : Option (List ℕ)} {faults faults_after : ℕ} {bytes items text : List ℕ} {answered status : Status}
-      → Reads left after items → bytes ≡ items → IsAnswerTo words bytes answered text → IsWritten answered text taken took faults faults_after status
+      → Reads left after items → bytes ≡ items → IsAnswerTo texts bytes answered text → IsWritten answered text taken took faults faults_after status
       → read_faults ≤ read_faults_after → faults ≤ faults_after
-      → Serves words left after read_faults read_faults_after sink sink_after taken took faults faults_after status
+      → Serves texts left after read_faults read_faults_after sink sink_after taken took faults faults_after status
   serves_answer {taken = taken} {took = took} {items = items} {text = text} {answered = answered} read same answer (inl (is, written)) counts counts_too =
-      let here = subst (λ (b : List ℕ). IsAnswerTo words b answered text) same answer in
-      let none = no_fault words items answered text here in record {
+      let here = subst (λ (b : List ℕ). IsAnswerTo texts b answered text) same answer in
+      let none = no_fault texts items answered text here in record {
         no_usage = λ e. none.0 (sym is ∙ e);
-        done = λ e. is_reported words left after taken took items answered text read written here (sym is ∙ e);
-        refused = λ line cause e. is_refused words left after taken took items answered text read written here line cause (sym is ∙ e);
+        done = λ e. is_written_of texts left after taken took items answered text read written here (sym is ∙ e);
+        refused = λ line cause e. is_refused texts left after taken took items answered text read written here line cause (sym is ∙ e);
         read_fault = λ e. absurd (none.1 (sym is ∙ e));
         write_fault = λ e. absurd (none.2 (sym is ∙ e));
         no_memory = λ e. absurd (none.3 (sym is ∙ e));
-        complete = λ unread unwritten. subst (λ (s : Status). IfSome left (AnswersBytes s)) (sym is) (is_answer words left after items answered text read here);
+        complete = λ unread unwritten. subst (λ (s : Status). IfSome left (AnswersBytes s)) (sym is) (is_answer texts left after items answered text read here);
         source_counts = counts;
         sink_counts = counts_too;
       }
   serves_answer {taken = taken} {took = took} {items = items} {text = text} {answered = answered} read same answer (inr (is, risen, (count, front))) counts counts_too =
-      let here = subst (λ (b : List ℕ). IsAnswerTo words b answered text) same answer in record {
+      let here = subst (λ (b : List ℕ). IsAnswerTo texts b answered text) same answer in record {
         no_usage = λ e. cc;
         done = λ e. absurd cc;
         refused = λ line cause e. absurd cc;
@@ -173,7 +169,7 @@ module _ {Sink : Type 0} {words : WordsOf} {left after : Option (List ℕ)} {rea
         sink_counts = counts_too;
       }
 
--- ---- a reader's fault, and a command of one thread
+-- ---- a reader's fault, and a word that is found
 
 pub if_ok_so : {T E : Type 0} {P Q : T → Type 0} (r : Result T E) → ((value : T) → P value → Q value) → IfOk r P → IfOk r Q
 if_ok_so (Ok value) f p = f value p
@@ -184,23 +180,8 @@ pub found_if_ok : {T E : Type 0} (script : ScriptLists) (word : T → List Lane)
 found_if_ok script word (Ok value) orders laws = record { orders = orders; laws = laws }
 found_if_ok script word (Err error) orders laws = tt
 
--- a refusal is the answer to what it refuses, whatever words a report may be of
-pub refusal-answers : (words : WordsOf) (bytes : List ℕ) (why : ScriptFault) (status : Status) (text : List ℕ) → IsWhy bytes why → RefusesAs why status text → IsAnswerTo words bytes status text
-refusal-answers words bytes (fault.Refused number cause) status text refused is =
+-- a refusal is the answer to what it refuses, whatever the texts of a script
+pub refusal-answers : (texts : TextsOf) (bytes : List ℕ) (why : ScriptFault) (status : Status) (text : List ℕ) → IsWhy bytes why → RefusesAs why status text → IsAnswerTo texts bytes status text
+refusal-answers texts bytes (fault.Refused number cause) status text refused is =
     inr (record { number = number; cause = cause; refused = refused; status_is = is.0; text_is = is.1 })
-refusal-answers words bytes fault.NoMemory status text refused is = absurd is
-
--- a command that is known to be `run`, or known not to be, by a test that tells it from the others
-pub is_run : (same : Command → Command → Bool) → same Replay Run ≡ false → ((n : ℕ) → same (Gen n) Run ≡ false) → ((n : ℕ) → same (Load n) Run ≡ false) → (command : Option Command) → true ≡ option_eq same command (Some Run) → command ≡ Some Run
-is_run same replay gen load None is = absurd (false≢true (sym is))
-is_run same replay gen load (Some Run) is = refl
-is_run same replay gen load (Some Replay) is = absurd (false≢true (sym replay ∙ sym is))
-is_run same replay gen load (Some (Gen n)) is = absurd (false≢true (sym (gen n) ∙ sym is))
-is_run same replay gen load (Some (Load n)) is = absurd (false≢true (sym (load n) ∙ sym is))
-
-pub is_plain : (same : Command → Command → Bool) → same Run Run ≡ true → (command : Option Command) → false ≡ option_eq same command (Some Run) → plain command ≡ command
-is_plain same run None is = refl
-is_plain same run (Some Run) is = absurd (false≢true (is ∙ run))
-is_plain same run (Some Replay) is = refl
-is_plain same run (Some (Gen n)) is = refl
-is_plain same run (Some (Load n)) is = refl
+refusal-answers texts bytes fault.NoMemory status text refused is = absurd is

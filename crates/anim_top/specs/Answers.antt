@@ -12,8 +12,8 @@ use Rattle.frame_script.specs.Printing.{script_text}
 use Rattle.script_gen.specs.Generated.{generated_script}
 use Rattle.tree_commit.specs.declared.edits.refusal.EditRefusal.{EditRefusal}
 use Rattle.tree_commit.specs.declared.edits.refusal.EditRefusal.TheVariants as refusal
-use Rattle.tree_commit.specs.Runs.{report_of}
-use Rattle.tree_commit.specs.Scripts.{ScriptLists}
+use Rattle.run_rules.specs.Runs.{report_of}
+use Rattle.run_rules.specs.Scripts.{ScriptLists}
 
 -- ---- refusals
 

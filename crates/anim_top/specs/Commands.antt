@@ -40,8 +40,8 @@ plain (Some (Gen n)) = Some (Gen n)
 plain (Some (Load n)) = Some (Load n)
 
 -- a number of a command is one that a script may be made from
-abbrev pub IsKnown : Command → Type 0
-IsKnown Run = Unit {0}
-IsKnown Replay = Unit {0}
-IsKnown (Gen n) = (1 ≤ n) × (n ≤ MOST_GENERATED)
-IsKnown (Load n) = (1 ≤ n) × (n ≤ MOST_GENERATED)
+abbrev pub IsCommand : Command → Type 0
+IsCommand Run = Unit {0}
+IsCommand Replay = Unit {0}
+IsCommand (Gen n) = (1 ≤ n) × (n ≤ MOST_GENERATED)
+IsCommand (Load n) = (1 ≤ n) × (n ≤ MOST_GENERATED)

@@ -7,13 +7,11 @@ use Rattle.frame_script.specs.declared.cause.Cause.{Cause}
 use Rattle.frame_script.specs.declared.fault.ScriptFault.{ScriptFault}
 use Rattle.frame_script.specs.declared.fault.ScriptFault.TheVariants as fault
 use Rattle.frame_script.specs.Texts.{IsRefusedAt, Spells}
-use Rattle.tree_commit.specs.Scripts.{IsWordOf, ScriptLists}
+use Rattle.run_rules.specs.Scripts.{IsWordOf, ScriptLists}
 use Rattle.word_machine.specs.Laws.{KeepsLaws}
-use Rattle.anim_top.specs.declared.arguments.Command.{Command}
-use Rattle.anim_top.specs.declared.arguments.Command.TheVariants.{Run, Replay, Gen, Load}
 use Rattle.anim_top.specs.declared.status.Status.{Status}
 use Rattle.anim_top.specs.declared.status.Status.TheVariants.{Done, Usage, Refused, ReadFault, WriteFault, NoMemory}
-use Rattle.anim_top.specs.Answers.{generated_text, load_text, refusal_text, text_of_report}
+use Rattle.anim_top.specs.Answers.{refusal_text, text_of_report}
 
 -- ---- reading
 
@@ -49,31 +47,26 @@ pub record FoundWord (script : ScriptLists) (word : List Lane) : Type 0 where
   pub orders : IsWordOf (length script.main) (length script.compositor) word
   pub laws : KeepsLaws script word
 
--- The source's bytes were read to their end, they spell a script, and the sink took the report that the definitions give
--- for that script and one of these words.
-pub record IsReported (words : WordsOf) (left after taken took : Option (List ℕ)) : Type 0 where
+-- which texts may be written of a script that was read
+abbrev pub TextsOf : Type 1
+TextsOf = ScriptLists → List ℕ → Type 0
+
+-- the report that the definitions give for the script and one of these words
+pub record ReportFor (words : WordsOf) (script : ScriptLists) (text : List ℕ) : Type 0 where
+  pub word : List Lane
+  pub of_word : words script word
+  pub text_is : text ≡ text_of_report script word
+
+-- The source's bytes were read to their end, they spell a script, and the sink took one of the texts of that script.
+pub record IsWrittenOf (texts : TextsOf) (left after taken took : Option (List ℕ)) : Type 0 where
   pub bytes : List ℕ
   pub script : ScriptLists
-  pub word : List Lane
+  pub text : List ℕ
   pub read : Gave left after bytes
   pub whole : IfSome left (λ all. all ≡ bytes)
   pub spelled : Spells bytes script
-  pub of_word : words script word
-  pub written : Took taken took (text_of_report script word)
-
--- The command was done: the sink took its output and nothing else.
-abbrev pub IsDone : Command → Option (List ℕ) → Option (List ℕ) → Option (List ℕ) → Option (List ℕ) → Type 0
-IsDone Run left after taken took = IsReported FoundWord left after taken took
-IsDone Replay left after taken took = IsReported own_word left after taken took
-IsDone (Gen n) left after taken took = Took taken took (generated_text n)
-IsDone (Load n) left after taken took = Took taken took (load_text n)
-
--- The command reads a script from the source, and does not make one.
-abbrev pub ReadsScript : Command → Type 0
-ReadsScript Run = Unit {0}
-ReadsScript Replay = Unit {0}
-ReadsScript (Gen n) = ⊥
-ReadsScript (Load n) = ⊥
+  pub of_script : texts script text
+  pub written : Took taken took text
 
 -- The source's bytes, read to their end or to one more than a script may have, are refused so, and the sink took the
 -- refusal.
@@ -83,14 +76,12 @@ pub record IsRefused (left after taken took : Option (List ℕ)) (number : ℕ) 
   pub refused : IsRefusedAt bytes number cause
   pub written : Took taken took (refusal_text number cause)
 
--- These bytes spell a script: the answer is Done, and the text is the report of that script and one of these words.
-pub record AnswersScript (words : WordsOf) (bytes : List ℕ) (status : Status) (text : List ℕ) : Type 0 where
+-- These bytes spell a script: the answer is Done, and the text is one of the texts of that script.
+pub record AnswersScript (texts : TextsOf) (bytes : List ℕ) (status : Status) (text : List ℕ) : Type 0 where
   pub script : ScriptLists
-  pub word : List Lane
   pub spelled : Spells bytes script
-  pub of_word : words script word
   pub status_is : status ≡ Done
-  pub text_is : text ≡ text_of_report script word
+  pub of_script : texts script text
 
 -- These bytes are refused: the answer is so too, and the text is the refusal.
 pub record AnswersRefusal (bytes : List ℕ) (status : Status) (text : List ℕ) : Type 0 where
@@ -106,25 +97,18 @@ RefusesAs (fault.Refused number cause) status text = (status ≡ Refused number 
 RefusesAs fault.NoMemory status text = ⊥
 
 -- the status and the text for these bytes
-abbrev pub IsAnswerTo : WordsOf → List ℕ → Status → List ℕ → Type 0
-IsAnswerTo words bytes status text = AnswersScript words bytes status text ⊎ AnswersRefusal bytes status text
+abbrev pub IsAnswerTo : TextsOf → List ℕ → Status → List ℕ → Type 0
+IsAnswerTo texts bytes status text = AnswersScript texts bytes status text ⊎ AnswersRefusal bytes status text
 
--- The source's bytes were read, and the sink took no more than the front of their report or of their refusal.
-pub record IsReportCutShort (words : WordsOf) (left after taken took : Option (List ℕ)) : Type 0 where
+-- The source's bytes were read, and the sink took no more than the front of their text or of their refusal.
+pub record IsFrontOf (texts : TextsOf) (left after taken took : Option (List ℕ)) : Type 0 where
   pub bytes : List ℕ
   pub status : Status
   pub text : List ℕ
   pub count : ℕ
   pub read : Reads left after bytes
-  pub answer : IsAnswerTo words bytes status text
+  pub answer : IsAnswerTo texts bytes status text
   pub written : Took taken took (take count text)
-
--- The sink took no more than the front of the command's output.
-abbrev pub IsCutShort : Command → Option (List ℕ) → Option (List ℕ) → Option (List ℕ) → Option (List ℕ) → Type 0
-IsCutShort Run left after taken took = IsReportCutShort FoundWord left after taken took
-IsCutShort Replay left after taken took = IsReportCutShort own_word left after taken took
-IsCutShort (Gen n) left after taken took = (count : ℕ) × Took taken took (take count (generated_text n))
-IsCutShort (Load n) left after taken took = (count : ℕ) × Took taken took (take count (load_text n))
 
 -- ---- answers
 
@@ -137,13 +121,6 @@ pub record AnswersBytes (status : Status) (bytes : List ℕ) : Type 0 where
   pub spelled : (script : ScriptLists) → Spells bytes script → OrNoMemory status Done
   pub refused : (number : ℕ) (cause : Cause) → IsRefusedAt bytes number cause → OrNoMemory status (Refused number cause)
 
--- The answer to a command over a source that has these bytes left, where it tells them, unless memory ran out.
-abbrev pub Answers : Command → Option (List ℕ) → Status → Type 0
-Answers Run left status = IfSome left (AnswersBytes status)
-Answers Replay left status = IfSome left (AnswersBytes status)
-Answers (Gen n) left status = OrNoMemory status Done
-Answers (Load n) left status = OrNoMemory status Done
-
 -- The sink took the whole text of an answer, and the status is the answer's; or it failed, and took a front of the text.
 abbrev pub IsWritten : Status → List ℕ → Option (List ℕ) → Option (List ℕ) → ℕ → ℕ → Status → Type 0
 IsWritten answered text taken took faults faults_after status =
@@ -152,13 +129,13 @@ IsWritten answered text taken took faults faults_after status =
 
 -- What the status says of a command that read a script: what the source had left before and after it, what the sink took,
 -- and how often either failed.
-pub record Serves {Sink : Type 0} (words : WordsOf) (left after : Option (List ℕ)) (read_faults read_faults_after : ℕ)
+pub record Serves {Sink : Type 0} (texts : TextsOf) (left after : Option (List ℕ)) (read_faults read_faults_after : ℕ)
     (sink sink_after : Sink) (taken took : Option (List ℕ)) (write_faults write_faults_after : ℕ) (status : Status) : Type 0 where
   pub no_usage : status ≢ Usage
-  pub done : status ≡ Done → IsReported words left after taken took
+  pub done : status ≡ Done → IsWrittenOf texts left after taken took
   pub refused : (line : ℕ) (cause : Cause) → status ≡ Refused line cause → IsRefused left after taken took line cause
   pub read_fault : status ≡ ReadFault → HasRisen read_faults read_faults_after × HasGiven left after × (sink_after ≡ sink)
-  pub write_fault : status ≡ WriteFault → HasRisen write_faults write_faults_after × IsReportCutShort words left after taken took
+  pub write_fault : status ≡ WriteFault → HasRisen write_faults write_faults_after × IsFrontOf texts left after taken took
   pub no_memory : status ≡ NoMemory → HasGiven left after × (sink_after ≡ sink)
   pub complete : ¬ HasRisen read_faults read_faults_after → ¬ HasRisen write_faults write_faults_after → IfSome left (AnswersBytes status)
   pub source_counts : read_faults ≤ read_faults_after

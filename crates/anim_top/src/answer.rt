@@ -1,8 +1,8 @@
 //! The answer to a script's bytes.
 
-ghost use Rattle.std.specs.Prelude.{◌≡◌, IfOk, string_bytes};
+ghost use Rattle.std.specs.Prelude.{◌≡◌, IfOk};
 ghost use Rattle.anim_top.specs.Answers.{refusal_text};
-ghost use Rattle.anim_top.specs.Outside.{FoundWord, IsAnswerTo, RefusesAs, own_word};
+ghost use Rattle.anim_top.specs.Outside.{FoundWord, IsAnswerTo, RefusesAs, ReportFor, own_word};
 
 use crate::causes::cause_text;
 use crate::replaying::report_of;
@@ -31,7 +31,7 @@ pub(crate) fn replay_bytes<F: VerdictFunction, E: EasingFunction>(
     bytes: &[u8],
     hooks: &Hooks<F, E>,
 ) -> Result<Answer, AllocError>
-    ensures { IfOk result (λ answer. IsAnswerTo own_word bytes.now answer.status answer.text.items) }
+    ensures { IfOk result (λ answer. IsAnswerTo (ReportFor own_word) bytes.now answer.status answer.text.items) }
 {
     match read_script(alloc, bytes) {
         Ok(script) => {
@@ -51,7 +51,7 @@ pub(crate) fn run_bytes<
     F: VerdictFunction + Sync,
     E: EasingFunction + Sync,
 >(rt: &R, alloc: Global, bytes: &[u8], gate: &G, hooks: &Hooks<F, E>) -> Result<Answer, AllocError>
-    ensures { IfOk result (λ answer. IsAnswerTo FoundWord bytes.now answer.status answer.text.items) }
+    ensures { IfOk result (λ answer. IsAnswerTo (ReportFor FoundWord) bytes.now answer.status answer.text.items) }
 {
     match read_script(alloc, bytes) {
         Ok(script) => {

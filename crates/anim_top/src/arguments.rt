@@ -1,13 +1,13 @@
 //! Which commands the program knows.
 
 ghost use Rattle.std.specs.Prelude.{◌≡◌, ◌≤◌, IfSome, map, string_bytes};
-ghost use Rattle.anim_top.specs.Commands.{IsKnown, by_name, command_of, number_of_elements, with_number};
+ghost use Rattle.anim_top.specs.Commands.{IsCommand, by_name, command_of, number_of_elements, with_number};
 
 use script_fields::numbers::natural_within;
 use script_gen::MOST_GENERATED;
 
 /// What the arguments ask for. A number says how large a script is made.
-#[derive(Clone, Copy, PartialEq, Eq)]
+#[derive(Clone, Copy)]
 pub enum Command {
     /// Run both lanes of the script that the source gives, each in a thread of its own, and write the report.
     Run,
@@ -22,7 +22,7 @@ pub enum Command {
 /// The command that the arguments are, if they are one.
 pub(crate) fn command_of(arguments: &[String]) -> Option<Command>
     ensures value { result ≡ command_of (map string_bytes arguments.now) }
-    ensures known { IfSome result IsKnown }
+    ensures known { IfSome result IsCommand }
 {
     match arguments {
         [name] => by_name(name),
@@ -34,7 +34,7 @@ pub(crate) fn command_of(arguments: &[String]) -> Option<Command>
 // A command that has no number.
 fn by_name(name: &String) -> Option<Command>
     ensures value { result ≡ by_name (string_bytes name.now) }
-    ensures known { IfSome result IsKnown }
+    ensures known { IfSome result IsCommand }
 {
     match name.as_str() {
         "run" => Some(Command::Run),
@@ -46,7 +46,7 @@ fn by_name(name: &String) -> Option<Command>
 // A command with a number.
 fn with_number(name: &String, number: &String) -> Option<Command>
     ensures value { result ≡ with_number (string_bytes name.now) (string_bytes number.now) }
-    ensures known { IfSome result IsKnown }
+    ensures known { IfSome result IsCommand }
 {
     match name.as_str() {
         "gen" => Some(Command::Gen(elements(number)?)),

@@ -1,10 +1,10 @@
 //! The calls that the program makes.
 
-ghost use Rattle.std.specs.Prelude.{◌≡◌, ◌≢◌, ◌↔◌, ◌⊎◌, ◌≤◌, ℕ, None, map, take, IfSome, IsSomeAnd, IsOkAnd, string_bytes};
+ghost use Rattle.std.specs.Prelude.{◌≡◌, ◌⊎◌, ◌≤◌, ℕ, map, take, IsOkAnd, string_bytes};
 ghost use Rattle.edge_io.specs.Edges.{HasRisen, Took};
-ghost use Rattle.frame_script.specs.declared.cause.Cause.{Cause};
 ghost use Rattle.anim_top.specs.Commands.{command_of, plain};
-ghost use Rattle.anim_top.specs.Outside.{Answers, FoundWord, HasGiven, IsCutShort, IsDone, IsRefused, IsWritten, ReadsScript, Serves, own_word};
+ghost use Rattle.anim_top.specs.Outside.{FoundWord, IsWritten, ReportFor, Serves, own_word};
+ghost use Rattle.anim_top.specs.Promises.{KeepsPromises};
 
 use crate::answer::{Answer, replay_bytes, run_bytes};
 use crate::arguments::{Command, command_of};
@@ -40,45 +40,13 @@ pub fn command<
     gate: &G,
     hooks: &Hooks<F, E>,
 ) -> Status
-    // The arguments are no command, and then nothing is read or written.
-    ensures usage { (result ≡ Status.Usage) ↔ (command_of (map string_bytes arguments.now) ≡ None) }
-    ensures untouched { result ≡ Status.Usage → (source.new ≡ source.old) × (sink.new ≡ sink.old) }
-
-    // A command that makes its script leaves the source as it is, and so meets no fault of it.
-    ensures unread { IsSomeAnd (command_of (map string_bytes arguments.now)) (λ c. ¬ ReadsScript c)
-        → (source.new ≡ source.old) × (result ≢ Status.ReadFault) }
-
-    // The command was done, and the sink took its output and nothing else. The source's bytes, read to their end, spell
-    // a script. Of `run` the output is the report that the definitions give for that script and some word of it, which
-    // orders the steps of both lanes; and the laws of runs are true of that word. Of `replay` it is the report for the
-    // script's own word.
-    ensures done { result ≡ Status.Done → IsSomeAnd (command_of (map string_bytes arguments.now)) (λ c.
-        IsDone c (S.left source.old) (S.left source.new) (K.taken sink.old) (K.taken sink.new)) }
-
-    // A script was read, the bytes are refused at this line for this cause, and the sink took the refusal and nothing
-    // else.
-    ensures refused { (line : ℕ) (cause : Cause) → result ≡ Status.Refused line cause
-        → IsSomeAnd (command_of (map string_bytes arguments.now)) ReadsScript
-        × IsRefused (S.left source.old) (S.left source.new) (K.taken sink.old) (K.taken sink.new) line cause }
-
-    // A fault is a fault of the outside.
-    ensures read_fault { result ≡ Status.ReadFault → HasRisen (S.faults source.old) (S.faults source.new)
-        × HasGiven (S.left source.old) (S.left source.new) × (sink.new ≡ sink.old) }
-    ensures write_fault { result ≡ Status.WriteFault → HasRisen (K.faults sink.old) (K.faults sink.new)
-        × IsSomeAnd (command_of (map string_bytes arguments.now)) (λ c.
-        IsCutShort c (S.left source.old) (S.left source.new) (K.taken sink.old) (K.taken sink.new)) }
-    ensures no_memory { result ≡ Status.NoMemory → HasGiven (S.left source.old) (S.left source.new) × (sink.new ≡ sink.old) }
-
-    // Where the outside has no fault, the answer is that of the command and of the bytes, unless memory ran out.
-    ensures complete { ¬ HasRisen (S.faults source.old) (S.faults source.new) → ¬ HasRisen (K.faults sink.old) (K.faults sink.new)
-        → IfSome (command_of (map string_bytes arguments.now)) (λ c. Answers c (S.left source.old) result) }
-    ensures source_counts { S.faults source.old ≤ S.faults source.new }
-    ensures sink_counts { K.faults sink.old ≤ K.faults sink.new }
+    ensures { KeepsPromises (command_of (map string_bytes arguments.now)) source.old source.new
+        (S.left source.old) (S.left source.new) (S.faults source.old) (S.faults source.new) sink.old sink.new
+        (K.taken sink.old) (K.taken sink.new) (K.faults sink.old) (K.faults sink.new) result }
 {
-    if command_of(arguments) == Some(Command::Run) {
-        run_source(rt, alloc, source, sink, gate, hooks)
-    } else {
-        plain_command(alloc, arguments, source, sink, hooks)
+    match command_of(arguments) {
+        Some(Command::Run) => run_source(rt, alloc, source, sink, gate, hooks),
+        _ => plain_command(alloc, arguments, source, sink, hooks),
     }
 }
 
@@ -94,38 +62,9 @@ pub fn plain_command<S: Source, K: Sink, F: VerdictFunction, E: EasingFunction>(
     sink: &mut K,
     hooks: &Hooks<F, E>,
 ) -> Status
-    // The arguments are none of these commands, and then nothing is read or written.
-    ensures usage { (result ≡ Status.Usage) ↔ (plain (command_of (map string_bytes arguments.now)) ≡ None) }
-    ensures untouched { result ≡ Status.Usage → (source.new ≡ source.old) × (sink.new ≡ sink.old) }
-
-    // A command that makes its script leaves the source as it is, and so meets no fault of it.
-    ensures unread { IsSomeAnd (plain (command_of (map string_bytes arguments.now))) (λ c. ¬ ReadsScript c)
-        → (source.new ≡ source.old) × (result ≢ Status.ReadFault) }
-
-    // The command was done, and the sink took its output and nothing else. Of `replay` that is the report of the script
-    // that the source's bytes spell, which were read to their end.
-    ensures done { result ≡ Status.Done → IsSomeAnd (plain (command_of (map string_bytes arguments.now))) (λ c.
-        IsDone c (S.left source.old) (S.left source.new) (K.taken sink.old) (K.taken sink.new)) }
-
-    // A script was read, the bytes are refused at this line for this cause, and the sink took the refusal and nothing
-    // else.
-    ensures refused { (line : ℕ) (cause : Cause) → result ≡ Status.Refused line cause
-        → IsSomeAnd (plain (command_of (map string_bytes arguments.now))) ReadsScript
-        × IsRefused (S.left source.old) (S.left source.new) (K.taken sink.old) (K.taken sink.new) line cause }
-
-    // A fault is a fault of the outside.
-    ensures read_fault { result ≡ Status.ReadFault → HasRisen (S.faults source.old) (S.faults source.new)
-        × HasGiven (S.left source.old) (S.left source.new) × (sink.new ≡ sink.old) }
-    ensures write_fault { result ≡ Status.WriteFault → HasRisen (K.faults sink.old) (K.faults sink.new)
-        × IsSomeAnd (plain (command_of (map string_bytes arguments.now))) (λ c.
-        IsCutShort c (S.left source.old) (S.left source.new) (K.taken sink.old) (K.taken sink.new)) }
-    ensures no_memory { result ≡ Status.NoMemory → HasGiven (S.left source.old) (S.left source.new) × (sink.new ≡ sink.old) }
-
-    // Where the outside has no fault, the answer is that of the command and of the bytes, unless memory ran out.
-    ensures complete { ¬ HasRisen (S.faults source.old) (S.faults source.new) → ¬ HasRisen (K.faults sink.old) (K.faults sink.new)
-        → IfSome (plain (command_of (map string_bytes arguments.now))) (λ c. Answers c (S.left source.old) result) }
-    ensures source_counts { S.faults source.old ≤ S.faults source.new }
-    ensures sink_counts { K.faults sink.old ≤ K.faults sink.new }
+    ensures { KeepsPromises (plain (command_of (map string_bytes arguments.now))) source.old source.new
+        (S.left source.old) (S.left source.new) (S.faults source.old) (S.faults source.new) sink.old sink.new
+        (K.taken sink.old) (K.taken sink.new) (K.faults sink.old) (K.faults sink.new) result }
 {
     match command_of(arguments) {
         None | Some(Command::Run) => Status::Usage,
@@ -145,7 +84,7 @@ fn run_source<
     F: VerdictFunction + Sync,
     E: EasingFunction + Sync,
 >(rt: &R, alloc: Global, source: &mut S, sink: &mut K, gate: &G, hooks: &Hooks<F, E>) -> Status
-    ensures { Serves FoundWord (S.left source.old) (S.left source.new) (S.faults source.old) (S.faults source.new)
+    ensures { Serves (ReportFor FoundWord) (S.left source.old) (S.left source.new) (S.faults source.old) (S.faults source.new)
         sink.old sink.new (K.taken sink.old) (K.taken sink.new) (K.faults sink.old) (K.faults sink.new) result }
 {
     let bytes = match read_bytes(alloc, source) {
@@ -166,7 +105,7 @@ fn replay_source<S: Source, K: Sink, F: VerdictFunction, E: EasingFunction>(
     sink: &mut K,
     hooks: &Hooks<F, E>,
 ) -> Status
-    ensures { Serves own_word (S.left source.old) (S.left source.new) (S.faults source.old) (S.faults source.new)
+    ensures { Serves (ReportFor own_word) (S.left source.old) (S.left source.new) (S.faults source.old) (S.faults source.new)
         sink.old sink.new (K.taken sink.old) (K.taken sink.new) (K.faults sink.old) (K.faults sink.new) result }
 {
     let bytes = match read_bytes(alloc, source) {

@@ -1,3 +1,5 @@
+//! The delegate and the evaluator that the program stores, as one value that both lanes can be given.
+
 use anim_delegate::{Delegate, VerdictFunction};
 use easing_fixed::{EasingFunction, Evaluator};
 

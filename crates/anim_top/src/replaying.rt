@@ -1,7 +1,7 @@
 //! Replaying a script on new sides and a new board, in the order of its own word.
 
 ghost use Rattle.std.specs.Prelude.{◌≡◌, IfOk};
-ghost use Rattle.tree_commit.specs.Runs.{report_of};
+ghost use Rattle.run_rules.specs.Runs.{report_of};
 
 use crate::Hooks;
 use crate::starting::{MOST_EVENTS, new_board};

@@ -2,7 +2,7 @@
 
 ghost use Rattle.std.specs.Prelude.{◌≡◌, IfOk};
 ghost use Rattle.anim_top.specs.Outside.{FoundWord};
-ghost use Rattle.tree_commit.specs.Runs.{report_of};
+ghost use Rattle.run_rules.specs.Runs.{report_of};
 
 use crate::Hooks;
 use crate::starting::{MOST_EVENTS, new_board};

@@ -1,3 +1,5 @@
+//! The statuses with which the program ends, and the number of each. Ending the process is left to `main`.
+
 use frame_script::Cause;
 
 /// How the program ended: a value, and not an act. `main` ends the process with its number.

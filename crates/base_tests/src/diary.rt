@@ -1,6 +1,6 @@
 //! A value with a journal, for the lock.
 
-ghost use Rattle.std.specs.Prelude.{◌≡◌, List, [], ◌∷◌, ◌++◌, OnOk, OnErr};
+ghost use Rattle.std.specs.Prelude.{◌≡◌, [], ◌∷◌, ◌++◌, OnOk, OnErr};
 ghost use Rattle.anim_names.specs.declared.entry.Entry.{Entry};
 
 use anim_names::Entry;

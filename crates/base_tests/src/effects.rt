@@ -1,9 +1,7 @@
 //! How far a model has come, and whether a group is ready.
 
-ghost use Rattle.std.specs.Prelude.{◌≡◌};
-
 use crate::builders::block;
-use anim_names::{ElementId, GroupId, ModelId, Property, Tree};
+use anim_names::{ElementId, GroupId, ModelId, PerProperty, Property, Tree};
 use element_anims::ElementAnims;
 use keyframe_effect::{GroupRow, ModelRow, RunState};
 use std::process::Abort;
@@ -42,19 +40,24 @@ fn a_model_that_waits_is_aborted(rt: HostRuntime) -> Result<(), Fail> {
     Ok(())
 }
 
-const ROW: GroupRow = GroupRow {
-    group: GroupId(2),
-    element: ElementId(3),
-    waiting: 1,
-    unfinished: 0,
-    opacity: true,
-    transform: false,
-};
+// A group of one model, which waits and animates the opacity.
+fn row() -> GroupRow {
+    GroupRow {
+        group: GroupId(2),
+        element: ElementId(3),
+        waiting: 1,
+        unfinished: 0,
+        animates: PerProperty::every(false).with(Property::Opacity, true),
+    }
+}
 
 fn expect_ready(rt: &impl Abort, table: &ElementAnims) {
-    assert!(rt; ROW.ready(table, false));
-    assert!(rt; !ROW.ready(table, true));
-    let none_waits = GroupRow { waiting: 0, ..ROW };
+    assert!(rt; row().ready(table, false));
+    assert!(rt; !row().ready(table, true));
+    let none_waits = GroupRow {
+        waiting: 0,
+        ..row()
+    };
     assert!(rt; !none_waits.ready(table, false));
 }
 
@@ -62,17 +65,17 @@ fn expect_ready(rt: &impl Abort, table: &ElementAnims) {
 fn a_group_is_ready_where_its_element_is_there_and_free(rt: HostRuntime) -> Result<(), Fail> {
     let mut table = ElementAnims::new(rt.alloc())?;
     table.reserve(8)?;
-    assert!(rt; !ROW.ready(&table, false));
+    assert!(rt; !row().ready(&table, false));
     assert!(rt; table.spare() > 0);
     table.set_present(Tree::Active, ElementId(3), true);
     expect_ready(&rt, &table);
     block(&rt, &mut table, 3, Property::Transform, 7);
     expect_ready(&rt, &table);
     block(&rt, &mut table, 3, Property::Opacity, 7);
-    assert!(rt; !ROW.ready(&table, false));
+    assert!(rt; !row().ready(&table, false));
     let own = GroupRow {
         group: GroupId(7),
-        ..ROW
+        ..row()
     };
     assert!(rt; own.ready(&table, false));
     Ok(())

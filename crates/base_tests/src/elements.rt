@@ -35,5 +35,13 @@ fn a_property_is_blocked_until_it_is_freed(rt: HostRuntime) -> Result<(), Fail> 
     table.unblock(ElementId(1), Property::Opacity);
     assert!(rt; table.blocked_by(ElementId(1), Property::Opacity).is_none());
     assert!(rt; table.blocked_by(ElementId(1), Property::Transform) == Some(GroupId(8)));
+    table.unblock_all(ElementId(1), GroupId(7));
+    assert!(rt; table.blocked_by(ElementId(1), Property::Transform) == Some(GroupId(8)));
+    table.unblock_all(ElementId(1), GroupId(8));
+    assert!(rt;
+        table
+            .blocked_by(ElementId(1), Property::Transform)
+            .is_none()
+    );
     Ok(())
 }

@@ -7,7 +7,7 @@ use anim_delegate::Policy;
 use anim_names::{ElementId, GroupId, ModelId, Property, TimelineId};
 use curve_keys::Curve;
 use easing_fixed::{Easing, EasingFunction, Evaluator};
-use keyframe_model::{CurveOf, ModelSpec, Value};
+use keyframe_model::{CurveOf, ModelSpec, SharedValue, Value};
 use micro_time::{Direction, Fill, Iterations, LARGEST_LOCAL, LONGEST_DURATION, Timing};
 use std::alloc::Global;
 use std::process::Abort;
@@ -72,6 +72,22 @@ fn value_by<E: EasingFunction + Drop>(
     assert!(rt; local.unsigned_abs() <= LARGEST_LOCAL);
     let evaluator = Evaluator::new(function);
     Ok(model.value(local, &evaluator)?)
+}
+
+// The same value to be shared, where the model gives one.
+fn shared_by<E: EasingFunction + Drop>(
+    rt: &impl Abort,
+    alloc: Global,
+    function: E,
+    model: &ModelSpec,
+    local: i64,
+) -> Result<Option<SharedValue>, Fail>
+    requires may_be_called { MayEase (E.asks function) }
+    requires exact { Eases (E.answers function) }
+{
+    assert!(rt; local.unsigned_abs() <= LARGEST_LOCAL);
+    let evaluator = Evaluator::new(function);
+    Ok(SharedValue::at(alloc, model, local, &evaluator)?)
 }
 
 fn opacity_at(rt: &impl Abort, model: &ModelSpec, local: i64) -> Result<Option<u32>, Fail> {
@@ -145,4 +161,26 @@ fn a_model_keeps_its_parts(rt: HostRuntime) -> Result<(), Fail> {
     assert!(rt; fade.timing().duration() == DURATION);
     assert!(rt; fade.curve().duration() == DURATION);
     Ok(())
+}
+
+#[test]
+fn a_shared_value_is_the_models_own(rt: HostRuntime) -> Result<(), Fail> {
+    let slide = model(&rt, slide(&rt, rt.alloc())?, 0, Fill::Forwards)?;
+    let before = shared_by(&rt, rt.alloc(), Easing::value, &slide, -1)?;
+    assert!(rt; before.is_none());
+    let shared = shared_by(&rt, rt.alloc(), Easing::value, &slide, 137_000)?.ok_or("no value")?;
+    expect_shared(&rt, &shared)?;
+    let again = shared.clone()?;
+    expect_shared(&rt, &again)
+}
+
+// Half of the way is left.
+fn expect_shared(rt: &impl Abort, shared: &SharedValue) -> Result<(), Fail> {
+    match shared {
+        SharedValue::Transform(list) => {
+            assert!(rt; y_of(rt, list)? == Some(20_000));
+            Ok(())
+        }
+        SharedValue::Opacity(_) => Err("a value of another property")?,
+    }
 }

@@ -1,8 +1,7 @@
 //! Ids, lanes and events.
 
 use anim_names::{
-    AnimEvent, ElementId, Entry, EntryKind, GroupId, Lane, LimitName, ModelId, Property,
-    TimelineId, Tree,
+    AnimEvent, Entry, EntryKind, GroupId, Lane, ModelId, PROPERTIES, PerProperty, Property,
 };
 
 #[test]
@@ -37,4 +36,12 @@ fn names_compare_by_what_they_say(rt: HostRuntime) {
         ..entry
     };
     assert!(rt; entry != other);
+}
+
+#[test]
+fn each_property_has_its_own_value(rt: HostRuntime) {
+    let values = PerProperty::every(1).with(Property::Transform, 2);
+    assert!(rt; values.at(Property::Opacity) == 1);
+    assert!(rt; values.at(Property::Transform) == 2);
+    assert!(rt; PROPERTIES.len() == 2);
 }

@@ -17,7 +17,7 @@ use edge_io::{
 use element_anims::ElementAnims;
 use event_queue::EventQueue;
 use keyframe_effect::{GroupRow, ModelRow, RunState};
-use keyframe_model::{CurveOf, ModelSpec, Value};
+use keyframe_model::{CurveOf, ModelSpec, SharedValue, Value};
 use micro_time::{Phase, Timing, TimingFault};
 use std::io::{Read, Write};
 use transform_ops::{ListFault, TransformList, TransformOp};
@@ -71,6 +71,7 @@ fn lists_curves_models_and_tables_are_shared() {
     is_shared::<CurveOf>();
     is_shared::<ModelSpec>();
     is_shared::<Value>();
+    is_shared::<SharedValue>();
     is_shared::<RunState>();
     is_shared::<ModelRow>();
     is_shared::<GroupRow>();

@@ -10,6 +10,11 @@ use Rattle.anim_names.specs.Lanes.{is_lane}
 use Rattle.anim_names.specs.Lists.{BeginsWith}
 use Rattle.commit_lock.specs.Views.{other_lane}
 
+-- the other lane is not the lane
+pub other_lane-is_not : (lane : Lane) → is_lane (other_lane lane) lane ≡ false
+other_lane-is_not Main = refl
+other_lane-is_not Compositor = refl
+
 pub is_lane-self : (lane : Lane) → is_lane lane lane ≡ true
 is_lane-self Main = refl
 is_lane-self Compositor = refl
@@ -42,12 +47,8 @@ pub entries_of_other : (lane : Lane) (xs : List Entry) → All (λ e. e.lane ≡
 entries_of_other lane [] own = refl
 entries_of_other lane (x ∷ xs) own =
     let here : x.lane ≡ lane = All-head (λ (e : Entry). e.lane ≡ lane) x xs own in
-    let test : is_lane (other_lane lane) x.lane ≡ false = ap (is_lane (other_lane lane)) here ∙ other_test lane in
+    let test : is_lane (other_lane lane) x.lane ≡ false = ap (is_lane (other_lane lane)) here ∙ other_lane-is_not lane in
     rw test (entries_of_other lane xs (All-tail (λ (e : Entry). e.lane ≡ lane) x xs own))
-  where
-    other_test : (lane : Lane) → is_lane (other_lane lane) lane ≡ false
-    other_test Main = refl
-    other_test Compositor = refl
 
 -- what a lane adds to a journal is its own there, and none of the other lane's
 pub entries_of_grown : (lane : Lane) (old new added : List Entry) → new ≡ old ++ added → All (λ e. e.lane ≡ lane) added

@@ -1,3 +1,6 @@
+//! A section of the lock while a lane is in it: the value is lent for the section's work. Only the lock begins and
+//! ends one.
+
 ghost use Rattle.std.specs.Prelude.{◌≡◌};
 ghost use Rattle.std.specs.Borrow.{Lends, sem};
 ghost use Rattle.commit_lock.specs.contracts.held.Held.{the_row};

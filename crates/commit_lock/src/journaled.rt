@@ -1,3 +1,5 @@
+//! What the lock asks of its value: a journal with an owner for each entry, and a subject that never changes.
+
 ghost use Rattle.std.specs.Prelude.{◌≡◌, ℕ, List, length};
 ghost use Rattle.anim_names.specs.declared.entry.Entry.{Entry};
 

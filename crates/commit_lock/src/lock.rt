@@ -1,3 +1,6 @@
+//! The lock itself: a lane takes its turn, counts its entries and gets the value, and gives all back. It waits by
+//! trying again, and promises no fairness.
+
 ghost use Rattle.std.specs.Prelude.{◌≡◌, [], ◌∷◌, None, Some, IfOk};
 ghost use Rattle.anim_names.specs.declared.lane.Lane.TheVariants.{Main, Compositor};
 ghost use Rattle.commit_lock.specs.declared.view.Stage.TheVariants.{Outside, HasTurn, HasValue};

@@ -1,3 +1,6 @@
+//! A lane's right to use the lock, with what the lane has seen of the journal. This knowledge is for contracts alone,
+//! and no running code has it.
+
 use crate::journaled::Journaled;
 use crate::view::View;
 use anim_names::Lane;

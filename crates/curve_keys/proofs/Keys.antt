@@ -1,6 +1,6 @@
 -- What is true of the keys of a curve.
-use Rattle.std.proofs.Common.{◌≡◌, ℕ, zero, suc, ◌-◌, ◌<◌, ◌≤◌, Bool, true, false, not, ◌&&◌, All, if◌then◌else◌, nat_lt, ◌==◌, ℤ, List, [], ◌∷◌, length, get_or, take, drop, Some, None, refl, inl, inr, subst, ◌+◌, ◌∙◌, arith}
-use Rattle.std.proofs.lemmas.Bool.{cases_lt}
+use Rattle.std.proofs.Common.{◌≡◌, ℕ, zero, suc, ◌-◌, ◌<◌, ◌≤◌, Bool, true, false, not, All, if◌then◌else◌, nat_lt, ◌==◌, ℤ, List, [], ◌∷◌, length, get_or, take, drop, Some, None, refl, inl, inr, subst, ◌+◌, ◌∙◌, arith}
+use Rattle.std.proofs.lemmas.Bool.{and_parts, cases_lt}
 use Rattle.std.proofs.lemmas.Bool.Decides.{nat_tests}
 use Rattle.std.proofs.lemmas.List.{take_all}
 use Rattle.micro_time.specs.declared.TheConstants.{LONGEST_DURATION}
@@ -18,14 +18,10 @@ last_time-at time (key ∷ []) (suc n) d is = absurd (omega arith)
 last_time-at time (key ∷ next ∷ keys) zero d is = absurd (omega arith)
 last_time-at time (key ∷ next ∷ keys) (suc n) d is = last_time-at key.time (next ∷ keys) n d (omega arith)
 
-both : (a b : Bool) → (a && b) ≡ true → (a ≡ true) × (b ≡ true)
-both true b h = (refl, h)
-both false b h = absurd (cc)
-
 last_time-after : {V : Type 0} (time : ℕ) (keys : List (Key V)) → is_rising_from time keys ≡ true → time ≤ last_time time keys
 last_time-after time [] rising = omega arith
 last_time-after time (key ∷ keys) rising =
-    let parts = both (nat_lt time key.time) (is_rising_from key.time keys) rising in
+    let parts = and_parts (nat_lt time key.time) (is_rising_from key.time keys) rising in
     let later = last_time-after key.time keys parts.1 in
     let next : time < key.time = grind (arith, nat_tests) in
     omega arith
@@ -62,7 +58,7 @@ lasting : {V : Type 0} (keys : List (Key V)) → 2 ≤ length keys → is_rising
 lasting [] some rising = absurd (omega arith)
 lasting (key ∷ []) some rising = absurd (omega arith)
 lasting (key ∷ next ∷ keys) some rising =
-    let parts = both (nat_lt key.time next.time) (is_rising_from next.time keys) rising in
+    let parts = and_parts (nat_lt key.time next.time) (is_rising_from next.time keys) rising in
     let later = last_time-after next.time keys parts.1 in
     let first : key.time < next.time = grind (arith, nat_tests) in
     omega arith

@@ -1,4 +1,7 @@
-ghost use Rattle.std.specs.Prelude.{◌≡◌, ℕ, ◌≤◌, ◌<◌, ◌*◌, All, length, false, IfOk, IsOk, slice_get, Some};
+//! Curves made of keys whose times rise from 0, and the value at any time. The values' type says how two of them are
+//! blended.
+
+ghost use Rattle.std.specs.Prelude.{◌≡◌, ◌≤◌, ◌<◌, ◌*◌, All, length, false, IfOk, IsOk, slice_get, Some};
 ghost use Rattle.std.specs.Prelude.{◌/◌, pos, ◌*ℤ◌};
 ghost use Rattle.std.specs.Result.{result_err};
 ghost use Rattle.value_blend.specs.Fixed.{floor_div, clamp_to};

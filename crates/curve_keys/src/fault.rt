@@ -1,3 +1,5 @@
+//! The causes for which keys are refused as a curve, and a text for each.
+
 use thiserror::Error;
 
 /// Why keys make no curve: the first of these that is so.

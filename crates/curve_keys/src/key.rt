@@ -1,3 +1,5 @@
+//! One key of a curve, and the value between it and the next one. Its easing bends the way to that one alone.
+
 ghost use Rattle.std.specs.Prelude.{◌≡◌, ◌≤◌, ◌<◌, false, IfOk, IsOk};
 ghost use Rattle.micro_time.specs.declared.TheConstants.{LONGEST_DURATION};
 

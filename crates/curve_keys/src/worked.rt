@@ -1,7 +1,6 @@
 //! Values worked out by hand, which the check computes from the definitions.
 
-ghost use Rattle.std.specs.Prelude.{◌≡◌, List, [], ◌∷◌, Some};
-ghost use Rattle.easing_fixed.specs.declared.easing.Easing.TheVariants.{Linear};
+ghost use Rattle.std.specs.Prelude.{◌≡◌, Some};
 ghost use Rattle.value_blend.specs.Blends.{blend_opacity};
 ghost use Rattle.curve_keys.specs.Worked.{up_and_half_down, stepped};
 ghost use Rattle.curve_keys.specs.Curves.{curve_value};

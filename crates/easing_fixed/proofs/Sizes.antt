@@ -4,6 +4,7 @@ use Rattle.std.specs.Int.{int_div_euclid}
 use Rattle.std.proofs.Math.Nat.{mul-le-mul_left, div-le_of_le-mul}
 use Rattle.std.proofs.lemmas.Bool.Decides.{nat_tests}
 use Rattle.std.proofs.lemmas.Int.{ints, unsigned_abs-mul}
+use Rattle.std.proofs.lemmas.Bool.{and_parts}
 use Rattle.anim_names.specs.declared.progress.TheConstants.{ONE}
 use Rattle.easing_fixed.specs.declared.TheConstants.{END, LARGEST_Y}
 use Rattle.easing_fixed.specs.declared.easing.Easing.{Easing}
@@ -31,7 +32,8 @@ heights f g e whole y1 y2 p q within =
 
 -- ---- the value
 
-divided-size : (z : ℤ) → unsigned_abs z ≤ ONE * ONE * ONE * LARGEST_Y → unsigned_abs (int_div_euclid z (pos unit)) ≤ 10 * ONE
+-- a sum of weights, divided
+pub divided-size : (z : ℤ) → unsigned_abs z ≤ ONE * ONE * ONE * LARGEST_Y → unsigned_abs (int_div_euclid z (pos unit)) ≤ 10 * ONE
 divided-size (pos a) size = omega arith
 divided-size (negsuc a) size = omega arith
 
@@ -42,10 +44,6 @@ x_size : (x : ℤ) → is_x x ≡ true → unsigned_abs x ≤ END
 x_size (pos n) is = grind (arith, nat_tests)
 x_size (negsuc n) is = absurd (cc)
 
-both : (a b : Bool) → (a && b) ≡ true → (a ≡ true) × (b ≡ true)
-both true b h = (refl, h)
-both false b h = absurd (cc)
-
 in_range : (xs ys : Bool) → (if not xs then Some XOutOfRange else if not ys then Some YOutOfRange else None) ≡ None → (xs ≡ true) × (ys ≡ true)
 in_range false ys none = absurd (cc)
 in_range true false none = absurd (cc)
@@ -55,8 +53,8 @@ pub IsCubic-sizes : (c : CubicParts) → IsCubic c →
     (unsigned_abs c.x1 ≤ END) × (unsigned_abs c.x2 ≤ END) × (unsigned_abs c.y1 ≤ LARGEST_Y) × (unsigned_abs c.y2 ≤ LARGEST_Y)
 IsCubic-sizes c is =
     let ranges = in_range (is_x c.x1 && is_x c.x2) (is_y c.y1 && is_y c.y2) is in
-    let xs = both (is_x c.x1) (is_x c.x2) ranges.0 in
-    let ys = both (is_y c.y1) (is_y c.y2) ranges.1 in
+    let xs = and_parts (is_x c.x1) (is_x c.x2) ranges.0 in
+    let ys = and_parts (is_y c.y1) (is_y c.y2) ranges.1 in
     (x_size c.x1 xs.0, x_size c.x2 xs.1, y_size c.y1 ys.0, y_size c.y2 ys.1)
 
 pub cubic_value-size : (c : CubicParts) (p : ℕ) → IsCubic c → unsigned_abs (cubic_value c p) ≤ 10 * ONE

@@ -1,3 +1,6 @@
+//! Cubic Bézier curves in fixed point: their height at a progress, by a plain search for the place and by a quick
+//! one. Both give the same.
+
 ghost use Rattle.std.specs.Prelude.{◌≡◌, ◌*◌, ◌≤◌, pos, unsigned_abs, IsFalse, IfOk, MatchResult};
 ghost use Rattle.std.specs.Result.{result_err};
 ghost use Rattle.easing_fixed.specs.Cubics.{cubic_parts, cubic_refusal, IsCubic, is_x, is_y, cubic_value};

@@ -1,3 +1,6 @@
+//! The easings that a script can name: linear, steps and cubics, with CSS's keywords, and the value of each at a
+//! progress.
+
 ghost use Rattle.std.specs.Prelude.{◌≡◌, ◌*◌, ◌≤◌, pos, unsigned_abs, IfOk};
 ghost use Rattle.std.specs.Result.{result_err};
 ghost use Rattle.easing_fixed.specs.Cubics.{cubic_parts, cubic_refusal};

@@ -1,3 +1,6 @@
+//! A stored function for easings, behind a trait that names its contract. Every stored function gives what the easing
+//! gives, so only the time that it takes differs.
+
 ghost use Rattle.std.specs.Prelude.{◌≡◌, ℕ, ◌*◌, ◌≤◌, ℤ, unsigned_abs};
 ghost use Rattle.std.specs.Borrow.{Bor};
 ghost use Rattle.easing_fixed.specs.declared.easing.Easing.{Easing};

@@ -1,3 +1,5 @@
+//! The causes for which the numbers of a step function or a cubic are refused.
+
 use thiserror::Error;
 
 /// Why numbers make no easing.

@@ -1,3 +1,6 @@
+//! The places where a step function may jump, with what each asks of the number of intervals and how many jumps come
+//! at once.
+
 ghost use Rattle.std.specs.Prelude.{◌≡◌};
 ghost use Rattle.easing_fixed.specs.Steps.{least_count, first_jumps};
 

@@ -1,3 +1,5 @@
+//! Step functions: the value at a progress is the share of its jumps that are made by then.
+
 ghost use Rattle.std.specs.Prelude.{◌≡◌, ◌+◌, ◌*◌, ◌<◌, ◌≤◌, IfOk};
 ghost use Rattle.std.specs.Result.{result_err};
 ghost use Rattle.easing_fixed.specs.Steps.{step_parts, step_refusal, AreSteps, jumps, step, step_value};

@@ -1,3 +1,5 @@
+//! Which calls of a source or a sink for tests are to fail, by their numbers.
+
 ghost use Rattle.std.specs.Prelude.{◌↔◌, IsTrue, Contains};
 
 /// Whether the call of this number is one of those that are to fail.

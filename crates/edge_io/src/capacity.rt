@@ -1,3 +1,5 @@
+//! Appending to a vector within its capacity, as the sinks over memory do once their room is reserved.
+
 ghost use Rattle.std.specs.Prelude.{◌≡◌, ◌+◌, ◌≤◌, ◌++◌, length, vec_len, vec_capacity};
 
 /// Appends bytes that there is room for, so that no memory is asked for.

@@ -1,3 +1,6 @@
+//! The gates before the lanes' steps: the program's, which does nothing, and two for tests, by which lanes wait for
+//! each other. No gate changes what a run reads.
+
 use anim_names::Lane;
 use std::hint::spin_loop;
 use std::sync::atomic::{AtomicBool, Ordering};

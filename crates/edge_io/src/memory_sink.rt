@@ -1,4 +1,6 @@
-ghost use Rattle.std.specs.Prelude.{◌≡◌, ℕ, ◌-◌, ◌<◌, ◌≤◌, ◌↔◌, ◌⊎◌, List, [], ◌++◌, length, take, min, vec_len, vec_capacity, Some, IsTrue, IsErr, IfOk, OnErr, Contains};
+//! A sink for tests that takes bytes in small parts and fails at chosen calls, or once its room is full.
+
+ghost use Rattle.std.specs.Prelude.{◌≡◌, ◌-◌, ◌<◌, ◌≤◌, ◌↔◌, ◌⊎◌, [], ◌++◌, length, take, min, vec_len, vec_capacity, Some, IsTrue, IsErr, IfOk, OnErr, Contains};
 ghost use Rattle.edge_io.specs.Edges.{next_count};
 ghost use Rattle.edge_io.specs.MemorySink.{SinkState, room};
 

@@ -1,4 +1,6 @@
-ghost use Rattle.std.specs.Prelude.{◌≡◌, ℕ, ◌<◌, ◌≤◌, ◌↔◌, List, [], ◌++◌, length, take, drop, min, Some, IsErr, IfOk, OnErr, Contains};
+//! A source for tests that gives its bytes in small parts and fails at chosen calls.
+
+ghost use Rattle.std.specs.Prelude.{◌≡◌, ◌<◌, ◌≤◌, ◌↔◌, [], ◌++◌, length, take, drop, min, Some, IsErr, IfOk, OnErr, Contains};
 ghost use Rattle.edge_io.specs.Edges.{next_count};
 ghost use Rattle.edge_io.specs.MemorySource.{SourceState};
 

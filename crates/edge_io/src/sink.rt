@@ -1,4 +1,7 @@
-ghost use Rattle.std.specs.Prelude.{◌≡◌, ℕ, ◌<◌, ◌≤◌, List, [], length, take, Option, IfOk, OnErr};
+//! The trait of what takes bytes: one call that writes, with a contract on the bytes taken and on the count of
+//! faults.
+
+ghost use Rattle.std.specs.Prelude.{ℕ, ◌<◌, ◌≤◌, List, [], length, take, Option, IfOk, OnErr};
 ghost use Rattle.edge_io.specs.Edges.{HasRisen, Took};
 
 use crate::Failed;

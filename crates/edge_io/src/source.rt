@@ -1,4 +1,6 @@
-ghost use Rattle.std.specs.Prelude.{◌≡◌, ℕ, ◌<◌, ◌≤◌, List, [], length, take, Option, IfOk, IfSome, OnErr, MatchResult};
+//! The trait of what gives bytes: one call that reads, with a contract on the bytes left and on the count of faults.
+
+ghost use Rattle.std.specs.Prelude.{◌≡◌, ℕ, ◌<◌, ◌≤◌, List, [], length, take, Option, IfOk, IfSome, OnErr};
 ghost use Rattle.edge_io.specs.Edges.{HasRisen, Gave};
 
 use crate::Failed;

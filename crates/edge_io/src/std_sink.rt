@@ -1,4 +1,7 @@
-ghost use Rattle.std.specs.Prelude.{◌≡◌, ℕ, ◌<◌, ◌≤◌, List, [], length, take, Some, None, Ok, IfSome, IfOk, OnOk, OnErr};
+//! A sink over any writer of std, as the program has it over standard output. Each write is flushed, and an
+//! interrupted one is tried again.
+
+ghost use Rattle.std.specs.Prelude.{◌≡◌, ◌<◌, ◌≤◌, length, take, Some, None, Ok, IfSome, IfOk, OnOk, OnErr};
 ghost use Rattle.edge_io.specs.Edges.{HasRisen, Took};
 ghost use Rattle.edge_io.specs.StdSink.{WriterState, TellsSince, told};
 

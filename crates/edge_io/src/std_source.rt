@@ -1,5 +1,7 @@
-ghost use Rattle.std.specs.Prelude.{◌≡◌, ℕ, ◌<◌, ◌≤◌, List, [], length, take, IfOk, OnErr, IfSome};
-ghost use Rattle.edge_io.specs.Edges.{HasRisen, Gave};
+//! A source over any reader of std, as the program has it over standard input. It reads an interrupted call again,
+//! and buffers nothing.
+
+ghost use Rattle.std.specs.Prelude.{◌≡◌, ◌<◌};
 ghost use Rattle.edge_io.specs.StdSource.{ReaderState};
 
 use crate::{Failed, Source};

@@ -1,4 +1,6 @@
-ghost use Rattle.std.specs.Prelude.{◌≡◌, ℕ, ◌+◌, ◌<◌, ◌≤◌, List, [], ◌++◌, length, true, false, vec_len, vec_capacity, Some, Ok, IfOk};
+//! A sink for tests that takes each piece whole, within room that is reserved once, and never fails.
+
+ghost use Rattle.std.specs.Prelude.{◌≡◌, ◌+◌, ◌<◌, ◌≤◌, [], ◌++◌, length, true, false, vec_len, vec_capacity, Ok, IfOk};
 ghost use Rattle.edge_io.specs.SteadySink.{SteadyState, told};
 
 use crate::capacity::extend_within_capacity;

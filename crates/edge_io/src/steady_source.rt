@@ -1,3 +1,6 @@
+//! A source that gives its bytes from memory without a fault, for tests and below the source that fails at chosen
+//! calls.
+
 ghost use Rattle.std.specs.Prelude.{◌≡◌, ℕ, ◌<◌, ◌≤◌, List, ◌++◌, length, take, drop, min, vec_len, Some, Ok, IfOk};
 
 use crate::{Failed, Source};

@@ -36,11 +36,6 @@ module _ (key : ℕ) (old new : List (ℕ × Row)) where
   pub no_idle-removed : IsWritten key None old new → KeepsNoIdleRow old → KeepsNoIdleRow new
   no_idle-removed written = no_idle-written key None old new written (λ _. refl)
 
-  -- where a row that says something was written
-  pub row-put : (row : Row) → IsWritten key (Some row) old new
-      → (e : ℕ) → row_in new e ≡ (if key == e then row else row_in old e)
-  row-put row written = row-written key (Some row) old new written
-
   pub no_idle-put : (row : Row) → is_idle row ≡ false → IsWritten key (Some row) old new
       → KeepsNoIdleRow old → KeepsNoIdleRow new
   no_idle-put row busy written =

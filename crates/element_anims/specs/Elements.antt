@@ -5,8 +5,8 @@ use Rattle.std.specs.Map.{lookup}
 use Rattle.anim_names.specs.declared.lane.Tree.{Tree}
 use Rattle.anim_names.specs.declared.lane.Tree.TheVariants.{Pending, Active}
 use Rattle.anim_names.specs.declared.property.Property.{Property}
-use Rattle.anim_names.specs.declared.property.Property.TheVariants.{Opacity, Transform}
-use Rattle.element_anims.specs.Rows.{Row, idle_row, is_idle, is_in_tree, blocker_in}
+use Rattle.anim_names.specs.Properties.{is_property}
+use Rattle.element_anims.specs.Rows.{Row, idle_row, is_idle, is_in_tree, blocker_in, unless_by}
 
 -- ---- what is kept
 
@@ -49,16 +49,9 @@ is_tree Pending Active = false
 is_tree Active Pending = false
 is_tree Active Active = true
 
--- both are the same property
-abbrev pub is_property : Property → Property → Bool
-is_property Opacity Opacity = true
-is_property Opacity Transform = false
-is_property Transform Opacity = false
-is_property Transform Transform = true
-
 -- What is said of the element is kept without memory: the element is known, or there is room for one more.
-abbrev pub HasRoomFor : Anims → ℕ → Type 0
-HasRoomFor table element = is_known table element ≡ false → 0 < table.room
+abbrev pub HasRoomForElement : Anims → ℕ → Type 0
+HasRoomForElement table element = is_known table element ≡ false → 0 < table.room
 
 -- The new table says of the element whether this tree has it; all else is as it was.
 pub record IsSetPresent (tree : Tree) (element : ℕ) (there : Bool) (old new : Anims) : Type 0 where
@@ -71,6 +64,12 @@ pub record IsSetBlocker (element : ℕ) (property : Property) (blocker : Option 
   pub presence : (t : Tree) (e : ℕ) → is_present new t e ≡ is_present old t e
   pub blocks : (e : ℕ) (p : Property)
       → blocker_of new e p ≡ (if element == e && is_property property p then blocker else blocker_of old e p)
+
+-- Of this element the group blocks nothing any more; all else is as it was.
+pub record IsUnblocked (element group : ℕ) (old new : Anims) : Type 0 where
+  pub presence : (t : Tree) (e : ℕ) → is_present new t e ≡ is_present old t e
+  pub blocks : (e : ℕ) (p : Property)
+      → blocker_of new e p ≡ (if element == e then unless_by group (blocker_of old e p) else blocker_of old e p)
 
 -- Both say the same.
 pub record SaysTheSame (old new : Anims) : Type 0 where

@@ -1,7 +1,11 @@
-ghost use Rattle.std.specs.Prelude.{◌≡◌};
-ghost use Rattle.element_anims.specs.Rows.{blocker_in, idle_row, is_idle, is_in_tree, with_blocker, with_presence};
+//! One element's row of the table: its presence in both trees, and the group that blocks each of its properties.
+//! Elements have no names here.
 
-use anim_names::{GroupId, Property, Tree};
+ghost use Rattle.std.specs.Prelude.{◌≡◌, is_some};
+ghost use Rattle.anim_names.specs.Properties.{is_some_at};
+ghost use Rattle.element_anims.specs.Rows.{blocker_in, freed, idle_row, is_idle, is_in_tree, unless_by, with_blocker, with_presence, without_blocker};
+
+use anim_names::{GroupId, PROPERTIES, PerProperty, Property, Tree};
 use std::marker::Model;
 
 /// What is kept of one element. Contracts see a `Row`.
@@ -11,10 +15,8 @@ pub(crate) struct ElementRow {
     pending: bool,
     /// Whether the active tree has the element.
     active: bool,
-    /// The group that blocks its opacity.
-    opacity: Option<GroupId>,
-    /// The group that blocks its transform.
-    transform: Option<GroupId>,
+    /// The group that blocks each of its properties.
+    blockers: PerProperty<Option<GroupId>>,
 }
 
 impl Model for ElementRow {
@@ -22,9 +24,9 @@ impl Model for ElementRow {
 
     ghost Value = { Row };
 
-    ghost view = { λ r. row_parts r.pending r.active r.opacity r.transform };
+    ghost view = { λ r. row_parts r.pending r.active r.blockers };
 
-    ghost inverse = { λ v. record { pending = v.pending; active = v.active; opacity = v.opacity; transform = v.transform } };
+    ghost inverse = { λ v. record { pending = v.pending; active = v.active; blockers = v.blockers } };
 }
 
 impl ElementRow {
@@ -35,8 +37,7 @@ impl ElementRow {
         ElementRow {
             pending: false,
             active: false,
-            opacity: None,
-            transform: None,
+            blockers: PerProperty::every(None),
         }
     }
 
@@ -44,9 +45,19 @@ impl ElementRow {
     pub(crate) fn is_idle(&self) -> bool
         ensures { result ≡ is_idle self.now }
     {
-        !(self.pending || self.active || self.opacity.is_some() || self.transform.is_some())
+        !(self.pending || self.active || self.is_blocked())
     }
 
+    // Whether a property of the element is blocked.
+    fn is_blocked(&self) -> bool
+        ensures { result ≡ is_some_at is_some self.now.blockers }
+    {
+        PROPERTIES
+            .iter()
+            .any(|property| self.blockers.at(*property).is_some())
+    }
+
+    // Whether the element is in the tree.
     pub(crate) fn is_in(&self, tree: Tree) -> bool
         ensures { result ≡ is_in_tree tree self.now }
     {
@@ -56,13 +67,11 @@ impl ElementRow {
         }
     }
 
+    // The group that blocks the property of the element, if one does.
     pub(crate) fn blocker(&self, property: Property) -> Option<GroupId>
         ensures { result ≡ blocker_in self.now property }
     {
-        match property {
-            Property::Opacity => self.opacity,
-            Property::Transform => self.transform,
-        }
+        self.blockers.at(property)
     }
 
     // The row with what it says of one tree changed.
@@ -85,15 +94,38 @@ impl ElementRow {
     pub(crate) fn with_blocker(self, property: Property, group: Option<GroupId>) -> ElementRow
         ensures { result ≡ with_blocker self property group }
     {
-        match property {
-            Property::Opacity => ElementRow {
-                opacity: group,
-                ..self
-            },
-            Property::Transform => ElementRow {
-                transform: group,
-                ..self
-            },
+        ElementRow {
+            blockers: self.blockers.with(property, group),
+            ..self
         }
+    }
+
+    // The row with no property blocked by the group.
+    pub(crate) fn without_blocker(self, group: GroupId) -> ElementRow
+        ensures { result ≡ without_blocker self group }
+    {
+        let mut row = self;
+        for index in 0..PROPERTIES.len() {
+            row = row.freed(PROPERTIES[index], group);
+        }
+        row
+    }
+
+    // The row with this property not blocked by the group.
+    fn freed(self, property: Property, group: GroupId) -> ElementRow
+        ensures { result ≡ freed group self property }
+    {
+        let blocker = unless_by(group, self.blocker(property));
+        self.with_blocker(property, blocker)
+    }
+}
+
+// What blocks a property once the group does not.
+fn unless_by(group: GroupId, blocker: Option<GroupId>) -> Option<GroupId>
+    ensures { result ≡ unless_by group blocker }
+{
+    match blocker {
+        Some(other) if group == other => None,
+        other => other,
     }
 }

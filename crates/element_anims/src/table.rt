@@ -1,6 +1,9 @@
+//! The table of elements: in which trees each is, and which group blocks which of its properties. An element that
+//! neither is true of has no row.
+
 ghost use Rattle.std.specs.Prelude.{◌≡◌, ℕ, ◌+◌, ◌==◌, ◌<◌, ◌≤◌, nat_eq, true, false, if◌then◌else◌, None, Some, IsSome, IfOk, OnOk};
 ghost use Rattle.std.specs.Map.{lookup};
-ghost use Rattle.element_anims.specs.Elements.{HasRoomFor, IsSetBlocker, IsSetPresent, SaysTheSame, blocker_of, is_present, room_for, row_of};
+ghost use Rattle.element_anims.specs.Elements.{HasRoomForElement, IsSetBlocker, IsSetPresent, IsUnblocked, SaysTheSame, blocker_of, is_present, room_for, row_of};
 ghost use Rattle.element_anims.specs.Rows.{idle_row, is_idle};
 
 use crate::row::ElementRow;
@@ -66,7 +69,7 @@ impl ElementAnims {
     /// Says whether a tree has the element. It takes no memory: there must be room for one that is put in and not
     /// known.
     pub fn set_present(&mut self, tree: Tree, element: ElementId, there: bool)
-        requires { there ≡ true → HasRoomFor self.old element }
+        requires { there ≡ true → HasRoomForElement self.old element }
         ensures set { IsSetPresent tree element there self.old self.new }
         ensures room { self.old.room ≤ self.new.room + room_for self.old element }
     {
@@ -85,7 +88,7 @@ impl ElementAnims {
     /// element. It takes no memory, as `set_present`.
     pub fn block(&mut self, element: ElementId, property: Property, group: GroupId)
         requires free { blocker_of self.old element property ≡ None }
-        requires room { HasRoomFor self.old element }
+        requires room { HasRoomForElement self.old element }
         ensures set { IsSetBlocker element property (Some group) self.old self.new }
         ensures room_kept { self.old.room ≤ self.new.room + room_for self.old element }
     {
@@ -109,6 +112,15 @@ impl ElementAnims {
         self.put(element, row);
     }
 
+    /// Says that the group blocks no property of the element any more.
+    pub fn unblock_all(&mut self, element: ElementId, group: GroupId)
+        ensures set { IsUnblocked element group self.old self.new }
+        ensures room { self.old.room ≤ self.new.room }
+    {
+        let row = self.row(element).without_blocker(group);
+        self.put(element, row);
+    }
+
     // What is kept of the element.
     fn row(&self, element: ElementId) -> ElementRow
         ensures { result ≡ row_of self.now element }
@@ -121,7 +133,7 @@ impl ElementAnims {
 
     // Keeps the row of the element, unless it says nothing.
     fn put(&mut self, element: ElementId, row: ElementRow)
-        requires { is_idle row ≡ false → HasRoomFor self.old element }
+        requires { is_idle row ≡ false → HasRoomForElement self.old element }
         ensures row { (e : ℕ) → row_of self.new e ≡ (if element == e then row else row_of self.old e) }
         ensures room { self.old.room ≤ self.new.room + room_for self.old element }
         ensures room_kept { is_idle row ≡ true → self.old.room ≤ self.new.room }
@@ -144,7 +156,7 @@ impl ElementAnims {
     // Keeps a row that says something.
     fn keep(&mut self, element: ElementId, row: ElementRow)
         requires says { is_idle row ≡ false }
-        requires room_for { HasRoomFor self.old element }
+        requires room_for { HasRoomForElement self.old element }
         ensures row { (e : ℕ) → row_of self.new e ≡ (if element == e then row else row_of self.old e) }
         ensures room { self.old.room ≤ self.new.room + room_for self.old element }
     {

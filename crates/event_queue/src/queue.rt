@@ -1,3 +1,6 @@
+//! The queue of events between the lanes, which keeps those that main has heard too. It is used by one lane at a
+//! time; the lock is elsewhere.
+
 ghost use Rattle.std.specs.Prelude.{◌≡◌, ◌+◌, ◌-◌, ◌<◌, ◌≤◌, [], ◌∷◌, ◌++◌, length, OnOk, OnErr, vec_len, vec_capacity};
 ghost use Rattle.event_queue.specs.Queues.{IsQueue, unheard, with_all_heard};
 

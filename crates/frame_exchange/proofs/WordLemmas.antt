@@ -6,7 +6,7 @@ use Rattle.anim_names.specs.declared.entry.Entry.{Entry}
 use Rattle.anim_names.specs.declared.lane.Lane.{Lane}
 use Rattle.anim_names.specs.declared.lane.Lane.TheVariants.{Main, Compositor}
 use Rattle.anim_names.specs.Lanes.{is_lane, letters_of}
-use Rattle.tree_commit.specs.Scripts.{IsWordOf}
+use Rattle.run_rules.specs.Scripts.{IsWordOf}
 use Rattle.frame_exchange.specs.Journals.{filled, word_so_far, word_of_journal}
 use Rattle.frame_exchange.specs.Words.{steps_of, AreWithinSteps}
 

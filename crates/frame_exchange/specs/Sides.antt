@@ -3,11 +3,11 @@ use Rattle.std.specs.Prelude.{◌≡◌, ℕ, ◌+◌, if◌then◌else◌, List
 use Rattle.anim_names.specs.declared.event.AnimEvent.{AnimEvent}
 use Rattle.frame_exchange.specs.declared.board.PendingSlot.{PendingSlot}
 use Rattle.frame_exchange.specs.declared.board.PendingSlot.TheVariants.{Free, Taken}
-use Rattle.tree_commit.specs.declared.runs.mark.Mark.{Mark}
+use Rattle.run_rules.specs.declared.mark.Mark.{Mark}
 use Rattle.tree_commit.specs.Trees.{Committed, TreeLists, empty_commit, empty_tree, next_commit}
 use Rattle.tree_commit.specs.Edits.{Book, Change, book_after, book_after_commit, new_book, tree_after}
-use Rattle.tree_commit.specs.Marks.{event_of, marks_of_activation, marks_of_tick}
-use Rattle.tree_commit.specs.Runs.{retires, tree_after_hearing}
+use Rattle.run_rules.specs.Marks.{event_of, marks_of_activation, marks_of_tick}
+use Rattle.run_rules.specs.Runs.{retires, tree_after_hearing}
 
 -- ---- main's side
 

@@ -1,4 +1,7 @@
-ghost use Rattle.std.specs.Prelude.{◌≡◌, ◌+◌, ◌<◌, ◌≤◌, ◌^◌, [], ◌∷◌, ◌++◌, length, IfOk, OnOk, OnErr, None, Some, is_none, option_map, slice_get, vec_len, vec_capacity};
+//! The board that the lanes share: a mailbox of one commit, the queue of events and the journal. Neither trees nor
+//! threads are known here.
+
+ghost use Rattle.std.specs.Prelude.{◌≡◌, ◌+◌, ◌<◌, ◌≤◌, ◌^◌, [], ◌∷◌, ◌++◌, length, IfOk, OnOk, None, Some, is_none, option_map, slice_get, vec_len, vec_capacity};
 ghost use Rattle.frame_exchange.specs.Journals.{IsExchange, drain_entry, finds_nothing, last_upto, mailbox_after_pull, publish_entry, published, pull_entry, reply_to_pull, send_entry, word_of_journal};
 ghost use Rattle.event_queue.specs.Queues.{unheard, with_all_heard};
 

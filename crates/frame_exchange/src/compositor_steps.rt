@@ -1,16 +1,19 @@
+//! The calls of which the compositor's steps are made, as a trait with contracts over its trees and the board.
+//! `side_compositor` has the type.
+
 ghost use Rattle.std.specs.Prelude.{◌≡◌, ◌⊎◌, ◌+◌, ◌-◌, ◌<◌, ◌≤◌, ◌^◌, nat_lt, not, ◌∷◌, [], ◌++◌, None, IfOk, OnOk, OnErr, IsSomeAnd, length, option_map};
 ghost use Rattle.anim_names.specs.declared.lane.Lane.{Lane};
 ghost use Rattle.anim_names.specs.declared.limit.TheConstants.{MOST_STEPS};
 ghost use Rattle.anim_timeline.specs.Timelines.{IsTime};
 ghost use Rattle.frame_exchange.specs.Journals.{finds_nothing, last_upto, mailbox_after_pull, pull_entry, reply_to_pull, send_entry};
 ghost use Rattle.frame_exchange.specs.Sides.{CompositorState, IsCompositorComplete, compositor_after_activation, compositor_after_place, compositor_after_pull, compositor_after_send, compositor_after_tick, compositor_ticked, marks_with_tick, news_of, slot_of};
-ghost use Rattle.tree_commit.specs.Follows.{Follows, KnowsAtMost};
-ghost use Rattle.tree_commit.specs.Frames.{LocalTimesFit, frame_at, shown_by};
+ghost use Rattle.run_rules.specs.Follows.{Follows, KnowsAtMost};
+ghost use Rattle.run_rules.specs.Frames.{LocalTimesFit, frame_at, shown_by};
 
 use crate::Board;
 use anim_names::limit::MOST_STEPS;
+use element_samples::Frame;
 use std::alloc::AllocError;
-use tree_commit::Frame;
 
 /// The calls of which the compositor's steps are made.
 ///

@@ -4,7 +4,7 @@ ghost use Rattle.std.specs.Prelude.{ℕ, List};
 ghost use Rattle.anim_names.specs.declared.entry.Entry.{Entry};
 ghost use Rattle.frame_exchange.specs.Journals.{word_of_journal};
 ghost use Rattle.frame_exchange.specs.Words.{AreWithinSteps};
-ghost use Rattle.tree_commit.specs.Scripts.{IsWordOf};
+ghost use Rattle.run_rules.specs.Scripts.{IsWordOf};
 
 /// The word of a journal has a letter for each step of both lanes, wherever no entry is of a step that its lane has
 /// not.

@@ -1,4 +1,7 @@
-ghost use Rattle.std.specs.Prelude.{◌≡◌, ◌+◌, ◌<◌, ◌≤◌, ◌^◌, ◌∷◌, [], ◌++◌, None, Some, IfOk, OnOk, OnErr, length};
+//! The calls of which main's steps are made, as a trait with contracts over main's tree and the board. `side_main`
+//! has the type.
+
+ghost use Rattle.std.specs.Prelude.{◌≡◌, ◌+◌, ◌<◌, ◌≤◌, ◌^◌, ◌∷◌, [], ◌++◌, Some, IfOk, OnOk, OnErr, length};
 ghost use Rattle.std.specs.Result.{result_err};
 ghost use Rattle.anim_names.specs.declared.lane.Lane.{Lane};
 ghost use Rattle.anim_names.specs.declared.limit.TheConstants.{MOST_COMMITS, MOST_STEPS};

@@ -1,3 +1,5 @@
+//! Making a word of a journal: each entry says how many steps its lane had made, and letters are added up to there.
+
 ghost use Rattle.std.specs.Prelude.{◌≡◌, [], OnOk};
 ghost use Rattle.anim_names.specs.Lanes.{letters_of};
 ghost use Rattle.frame_exchange.specs.Journals.{filled};

@@ -3,8 +3,8 @@ use Rattle.std.specs.Prelude.{ℕ, ◌-◌, Bool, true, false, List, [], ◌∷�
 use Rattle.std.specs.Fmt.{decimal}
 use Rattle.anim_names.specs.declared.event.AnimEvent.{AnimEvent}
 use Rattle.anim_names.specs.declared.event.AnimEvent.TheVariants.{Started, Finished, Aborted}
-use Rattle.tree_commit.specs.Frames.{DrawnFrame}
-use Rattle.tree_commit.specs.Runs.{ReportLists}
+use Rattle.run_rules.specs.Frames.{DrawnFrame}
+use Rattle.run_rules.specs.Runs.{ReportLists}
 use Rattle.frame_report.specs.Texts.{line}
 
 -- the rows of all frames

@@ -6,8 +6,8 @@ use Rattle.anim_names.specs.declared.event.AnimEvent.{AnimEvent}
 use Rattle.anim_names.specs.declared.event.AnimEvent.TheVariants.{Started, Finished, Aborted}
 use Rattle.script_fields.specs.Fields.{joined}
 use Rattle.script_fields.specs.Printed.{word_text, list_fields}
-use Rattle.tree_commit.specs.Frames.{DrawnRow, DrawnFrame}
-use Rattle.tree_commit.specs.Runs.{ReportLists}
+use Rattle.run_rules.specs.Frames.{DrawnRow, DrawnFrame}
+use Rattle.run_rules.specs.Runs.{ReportLists}
 
 -- a line of fields: it ends in a line feed
 abbrev pub line : List (List ℕ) → List ℕ
@@ -15,7 +15,7 @@ line fields = joined fields ++ 10 ∷ []
 
 -- `element ID OPACITY LIST`
 abbrev pub row_line : DrawnRow → List ℕ
-row_line row = line (codes "element" ∷ decimal row.element ∷ decimal row.opacity ∷ list_fields row.transform)
+row_line row = line (codes "element" ∷ decimal row.element ∷ decimal row.look.opacity ∷ list_fields row.look.transform)
 
 -- `frame TIME commit NUMBER`, and a line for each row
 abbrev pub frame_lines : DrawnFrame → List ℕ

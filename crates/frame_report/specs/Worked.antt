@@ -3,8 +3,8 @@ use Rattle.std.specs.Prelude.{[], ◌∷◌, pos, negsuc}
 use Rattle.anim_names.specs.declared.event.AnimEvent.TheVariants.{Started, Finished, Aborted}
 use Rattle.anim_names.specs.declared.lane.Lane.TheVariants.{Main, Compositor}
 use Rattle.transform_ops.specs.declared.op.TransformOp.TheVariants.{Translate, Scale, Rotate, Skew}
-use Rattle.tree_commit.specs.Frames.{DrawnRow}
-use Rattle.tree_commit.specs.Runs.{ReportLists}
+use Rattle.run_rules.specs.Frames.{DrawnRow}
+use Rattle.run_rules.specs.Runs.{ReportLists}
 
 -- the report of a script without a step: only the closing drain counts
 abbrev pub empty_report : ReportLists
@@ -13,13 +13,15 @@ empty_report = record { word = []; frames = []; events = []; heard = 0 ∷ [] }
 abbrev moved_row : DrawnRow
 moved_row = record {
   element = 1;
-  opacity = 250000;
-  transform = Translate (pos 1) (negsuc 1) (pos 3) ∷ Scale (pos 1000000) (pos 0) (negsuc 3)
-      ∷ Rotate (pos 0) (pos 0) (pos 1) (negsuc 89999) ∷ Skew (pos 5) (negsuc 5) ∷ [];
+  look = record {
+    opacity = 250000;
+    transform = Translate (pos 1) (negsuc 1) (pos 3) ∷ Scale (pos 1000000) (pos 0) (negsuc 3)
+        ∷ Rotate (pos 0) (pos 0) (pos 1) (negsuc 89999) ∷ Skew (pos 5) (negsuc 5) ∷ [];
+  };
 }
 
 abbrev still_row : DrawnRow
-still_row = record { element = 4294967295; opacity = 1000000; transform = [] }
+still_row = record { element = 4294967295; look = record { opacity = 1000000; transform = [] } }
 
 -- a report with a line of each kind
 abbrev pub all_kinds : ReportLists

@@ -1,6 +1,9 @@
+//! Reports as plain values: the word, the frames, the events and the heard counts of a run. Their text is made
+//! elsewhere in this crate.
+
 use anim_names::{AnimEvent, Lane};
+use element_samples::Frame;
 use std::marker::Model;
-use tree_commit::Frame;
 
 /// What a run of a script showed and told.
 ///
@@ -25,7 +28,7 @@ impl Drop for Report {
 }
 
 impl Model for Report {
-    ghost use Rattle.tree_commit.specs.Runs.{ReportLists};
+    ghost use Rattle.run_rules.specs.Runs.{ReportLists};
 
     ghost Value = { ReportLists };
 

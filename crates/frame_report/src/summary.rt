@@ -6,8 +6,8 @@ ghost use Rattle.frame_report.specs.Summaries.{count_rows, is_start, is_finish, 
 
 use crate::Report;
 use anim_names::AnimEvent;
+use element_samples::Frame;
 use std::alloc::{AllocError, Global};
-use tree_commit::Frame;
 
 /// The line that says what a report has, for the script that was made from a number. How many bytes of text it has is
 /// up to the caller, who has printed it or has not.

@@ -3,14 +3,14 @@
 ghost use Rattle.std.specs.Prelude.{◌≡◌, ◌++◌, ◌∷◌, [], IfOk, OnOk, codes, string_bytes};
 ghost use Rattle.std.specs.List.{flat_map};
 ghost use Rattle.script_fields.specs.Printed.{word_text};
-ghost use Rattle.tree_commit.specs.Views.{drawn_row_of};
+ghost use Rattle.element_samples.specs.Views.{drawn_row_of};
 ghost use Rattle.frame_report.specs.Texts.{line, row_line, frame_lines, event_line, heard_line, report_text};
 
 use crate::Report;
 use anim_names::{AnimEvent, Lane};
+use element_samples::{Frame, FrameRow};
 use script_fields::printed::{print_list, print_word};
 use std::alloc::{AllocError, Global};
-use tree_commit::{Frame, FrameRow};
 
 /// The text of a report: times in microseconds, opacities in millionths, each line with a line feed at its end.
 ///
@@ -59,8 +59,13 @@ fn print_frame(out: &mut String, frame: &Frame) -> Result<(), AllocError>
 fn print_row(out: &mut String, row: &FrameRow) -> Result<(), AllocError>
     ensures { OnOk result (string_bytes out.new ≡ string_bytes out.old ++ row_line (drawn_row_of row.now)) }
 {
-    write!(out, "element {} {} ", row.element.0, row.opacity.get())?;
-    print_list(out, &row.transform)?;
+    write!(
+        out,
+        "element {} {} ",
+        row.element.0,
+        row.shown.opacity.get()
+    )?;
+    print_list(out, &row.shown.transform)?;
     out.push('\n')
 }
 

@@ -9,8 +9,8 @@ use Rattle.transform_ops.specs.Lists.{IsList}
 use Rattle.curve_keys.specs.Curves.{keyframes}
 use Rattle.keyframe_model.specs.Models.{PropertyCurve, OpacityCurve, TransformCurve, property_of_curve}
 use Rattle.tree_commit.specs.declared.edits.refusal.EditRefusal.TheVariants.{Limit}
-use Rattle.tree_commit.specs.Edits.{AddModel, edit_refusal, model_refusal}
-use Rattle.tree_commit.specs.Scripts.{StepOfMain, EditStep, ScriptLists, book_of}
+use Rattle.tree_commit.specs.Edits.{OnModels, AddModel, edit_refusal, model_refusal}
+use Rattle.run_rules.specs.Scripts.{StepOfMain, EditStep, ScriptLists, book_of}
 use Rattle.script_fields.specs.Fields.{fields}
 use Rattle.script_fields.proofs.Ranges.{bind_ok}
 use Rattle.frame_script.specs.declared.cause.Cause.{Cause}
@@ -47,7 +47,7 @@ makes_curve line (TransformKeys keys) fits are all =
 
 -- the model may be added as its line was
 still_allowed : (steps : List StepOfMain) (line : ModelLine) (curve : PropertyCurve) → property_of_curve curve ≡ line.names.property → model_allowed steps line.names ≡ Ok tt
-    → main_with steps (EditStep (AddModel (model_with line curve))) ≡ Ok (steps ++ EditStep (AddModel (model_with line curve)) ∷ [])
+    → main_with steps (EditStep (OnModels (AddModel (model_with line curve)))) ≡ Ok (steps ++ EditStep (OnModels (AddModel (model_with line curve))) ∷ [])
 unfolding model_allowed main_with edit_refusal
 still_allowed steps line curve same allowed =
     let d = bind_ok (demand (has_room steps) (Edit (Limit Steps))) (λ room. allow (names_refusal (book_of steps) line.names)) tt allowed in
@@ -61,7 +61,7 @@ unfolding model_made model_through step_made
 model_is_made script line keys draft all =
     let c = makes_curve line keys draft.line_fits draft.keys_fit all in
     let m = still_allowed script.main line c.curve c.property draft.allowed in
-    (at InMain (with_main script (script.main ++ EditStep (AddModel (model_with line c.curve)) ∷ [])), rw (c.made, m) refl)
+    (at InMain (with_main script (script.main ++ EditStep (OnModels (AddModel (model_with line c.curve))) ∷ [])), rw (c.made, m) refl)
 
 made_or_not : (test : Bool) (script : ScriptLists) (line : ModelLine) (keys : PropertyKeys) → eqb (key_count keys) line.keys ≡ test → IsDraft script line keys
     → (next : ScriptState) × (cond test (model_made script line keys) (Ok (at (InModel line keys) script)) ≡ Ok next)

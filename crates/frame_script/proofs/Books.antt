@@ -1,12 +1,15 @@
 -- The book and the ticks of one more step.
-use Rattle.std.proofs.Common.{◌≡◌, ℕ, List, [], ◌∷◌, ◌++◌, Option, Some, None, Ok, refl, ap}
+use Rattle.std.proofs.Common.{◌≡◌, ℕ, List, [], ◌∷◌, ◌++◌, Option, Some, None, Ok, refl, ◌∙◌}
 use Rattle.std.proofs.lemmas.Grind.{fold-append}
-use Rattle.tree_commit.specs.declared.runs.compositor_step.CompositorStep.{CompositorStep}
-use Rattle.tree_commit.specs.declared.runs.compositor_step.CompositorStep.TheVariants.{Pull, Activate, Tick}
+use Rattle.std.proofs.lemmas.List.{append-nil}
+use Rattle.std.proofs.lemmas.List.Elements.{filter_map-append}
+use Rattle.run_rules.specs.declared.compositor_step.CompositorStep.{CompositorStep}
+use Rattle.run_rules.specs.declared.compositor_step.CompositorStep.TheVariants.{Pull, Activate, Tick}
 use Rattle.tree_commit.specs.Edits.{new_book}
-use Rattle.tree_commit.specs.Scripts.{StepOfMain, book_of, book_after_step, ticks_of}
+use Rattle.run_rules.specs.Scripts.{StepOfMain, book_of, book_after_step, time_of_tick, ticks_of}
 use Rattle.frame_script.specs.declared.cause.Cause.{Cause}
 use Rattle.frame_script.specs.Causes.{allow}
+use Rattle.frame_script.specs.States.{last_from}
 
 -- ---- the book
 
@@ -19,17 +22,18 @@ allowed_is (Some c) h = absurd cc
 
 -- ---- the ticks
 
+-- these times, and the one of a further step where it is a tick
 abbrev pub ticks_with : List ℕ → CompositorStep → List ℕ
 ticks_with ticks Pull = ticks
 ticks_with ticks Activate = ticks
 ticks_with ticks (Tick time) = ticks ++ time ∷ []
 
 pub ticks_of-push : (steps : List CompositorStep) (step : CompositorStep) → ticks_of (steps ++ step ∷ []) ≡ ticks_with (ticks_of steps) step
-ticks_of-push [] Pull = refl
-ticks_of-push [] Activate = refl
-ticks_of-push [] (Tick time) = refl
-ticks_of-push (Pull ∷ steps) step = ticks_of-push steps step
-ticks_of-push (Activate ∷ steps) step = ticks_of-push steps step
-ticks_of-push (Tick time ∷ steps) Pull = ap (λ (ts : List ℕ). time ∷ ts) (ticks_of-push steps Pull)
-ticks_of-push (Tick time ∷ steps) Activate = ap (λ (ts : List ℕ). time ∷ ts) (ticks_of-push steps Activate)
-ticks_of-push (Tick time ∷ steps) (Tick next) = ap (λ (ts : List ℕ). time ∷ ts) (ticks_of-push steps (Tick next))
+ticks_of-push steps Pull = filter_map-append time_of_tick steps (Pull ∷ []) ∙ append-nil (ticks_of steps)
+ticks_of-push steps Activate = filter_map-append time_of_tick steps (Activate ∷ []) ∙ append-nil (ticks_of steps)
+ticks_of-push steps (Tick time) = filter_map-append time_of_tick steps (Tick time ∷ [])
+
+-- the last of the times with one more is that one
+pub last_from-push : (before : ℕ) (times : List ℕ) (time : ℕ) → last_from before (times ++ time ∷ []) ≡ time
+last_from-push before [] time = refl
+last_from-push before (next ∷ times) time = last_from-push next times time

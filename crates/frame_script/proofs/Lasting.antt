@@ -1,6 +1,6 @@
 -- A timing that lasts as long as a curve, and the keys of a model so far.
-use Rattle.std.proofs.Common.{◌≡◌, ℕ, ◌<◌, ◌≤◌, Bool, true, false, cond, ltb, ◌&&◌, not, List, [], ◌∷◌, ◌++◌, length, length-append, Option, Some, None, Ok, refl, subst, arith}
-use Rattle.std.proofs.lemmas.Bool.{le-leb, le-ltb}
+use Rattle.std.proofs.Common.{◌≡◌, ℕ, ◌<◌, ◌≤◌, Bool, true, false, cond, ltb, not, List, [], ◌∷◌, ◌++◌, length, length-append, Option, Some, None, Ok, refl, subst, arith}
+use Rattle.std.proofs.lemmas.Bool.{and_parts, le-leb, le-ltb}
 use Rattle.std.specs.List.{AllByRecursion}
 use Rattle.micro_time.specs.declared.TheConstants.{LONGEST_DURATION}
 use Rattle.micro_time.specs.declared.fault.TimingFault.{TimingFault}
@@ -33,11 +33,6 @@ pub demand_is : (test : Bool) (cause : Cause) → demand test cause ≡ Ok tt �
 demand_is true cause h = refl
 demand_is false cause h = absurd cc
 
-both_true : (a b : Bool) → (a && b) ≡ true → (a ≡ true) × (b ≡ true)
-both_true true true h = (refl, refl)
-both_true true false h = absurd cc
-both_true false b h = absurd cc
-
 -- the keys so far of a model that has this many: their times rise from 0, and each is one that may be
 pub record AreKeys {V : Type 0} (is_value : V → Type 0) (most : ℕ) (keys : List (Key V)) : Type 0 where
   pub few : length keys ≤ most
@@ -51,7 +46,7 @@ no_keys_yet is_value most = record { few = omega arith; each = tt; rising = refl
 rising-push : {V : Type 0} (t : ℕ) (keys : List (Key V)) (key : Key V) → is_rising_from t keys ≡ true → ltb (last_time t keys) key.time ≡ true → is_rising_from t (keys ++ key ∷ []) ≡ true
 rising-push t [] key rising later = rw later refl
 rising-push t (first ∷ keys) key rising later =
-    let b = both_true (ltb t first.time) (is_rising_from first.time keys) rising in
+    let b = and_parts (ltb t first.time) (is_rising_from first.time keys) rising in
     rw (b.0, rising-push first.time keys key b.1 later) refl
 
 each-push : {A : Type 0} (P : A → Type 0) (xs : List A) (x : A) → AllByRecursion P xs → P x → AllByRecursion P (xs ++ x ∷ [])

@@ -1,7 +1,7 @@
 -- Reading line by line, and the relations of texts: the two agree.
 use Rattle.std.proofs.Common.{◌≡◌, ◌≢◌, ℕ, suc, ◌+◌, ◌≤◌, Bool, true, false, cond, ltb, List, [], ◌∷◌, ◌++◌, length, ◌⊎◌, inl, inr, zero-add, Result, Ok, Err, refl, ap, sym, ◌∙◌, arith}
 use Rattle.std.proofs.lemmas.Bool.{le-ltb, lt-ltb, ltb-true, ltb-false}
-use Rattle.tree_commit.specs.Scripts.{ScriptLists}
+use Rattle.run_rules.specs.Scripts.{ScriptLists}
 use Rattle.script_fields.specs.Fields.{◌>>=◌}
 use Rattle.frame_script.specs.declared.TheConstants.{MOST_BYTES}
 use Rattle.frame_script.specs.declared.cause.Cause.{Cause}

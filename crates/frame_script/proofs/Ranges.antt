@@ -2,7 +2,10 @@
 use Rattle.std.proofs.Common.{◌≡◌, ℕ, ◌≤◌, Bool, true, false, cond, leb, eqb, ◌&&◌, ℤ, pos, negsuc, List, [], ◌∷◌, length, Option, Some, None, Result, Ok, Err, refl, ap, subst, arith}
 use Rattle.std.specs.Prelude.{ok_or, codes, IfSome}
 use Rattle.std.specs.Str.{bytes_eq}
-use Rattle.std.proofs.lemmas.Bool.{leb-true}
+use Rattle.std.proofs.lemmas.Bool.{and_parts, leb-true}
+use Rattle.anim_names.specs.declared.property.Property.{Property}
+use Rattle.anim_names.specs.declared.property.Property.TheVariants.{Opacity, Transform}
+use Rattle.anim_names.specs.declared.version.Version.{Version}
 use Rattle.anim_timeline.specs.declared.TheConstants.{LAST_TIME}
 use Rattle.anim_timeline.specs.Timelines.{IsTime}
 use Rattle.anim_delegate.specs.declared.policy.Policy.{Policy}
@@ -16,12 +19,12 @@ use Rattle.transform_ops.specs.Lists.{IsList}
 use Rattle.curve_keys.specs.declared.TheConstants.{FEWEST_KEYS, MOST_KEYS}
 use Rattle.curve_keys.specs.declared.key.Key.{Key}
 use Rattle.curve_keys.specs.Curves.{IsKey}
-use Rattle.keyframe_model.specs.Models.{IsId}
-use Rattle.tree_commit.specs.declared.runs.compositor_step.CompositorStep.{CompositorStep}
-use Rattle.tree_commit.specs.declared.runs.compositor_step.CompositorStep.TheVariants.{Pull, Activate, Tick}
+use Rattle.keyframe_model.specs.Models.{IsId, PropertyValue, OpacityValue, TransformValue, IsPropertyValue}
+use Rattle.run_rules.specs.declared.compositor_step.CompositorStep.{CompositorStep}
+use Rattle.run_rules.specs.declared.compositor_step.CompositorStep.TheVariants.{Pull, Activate, Tick}
 use Rattle.tree_commit.specs.Ranges.{IsChange}
-use Rattle.tree_commit.specs.Edits.{Change, AddElement, RemoveElement, SetOpacity, SetTransform, AddTimeline, RemoveModel}
-use Rattle.tree_commit.specs.Scripts.{StepOfMain, EditStep, CommitStep, DrainStep, IsStep}
+use Rattle.tree_commit.specs.Edits.{Change, OnElements, OnTimelines, OnModels, AddElement, RemoveElement, SetOwn, AddTimeline, RemoveModel}
+use Rattle.run_rules.specs.Scripts.{StepOfMain, EditStep, CommitStep, DrainStep, IsStep}
 use Rattle.script_fields.specs.declared.fault.FieldFault.{FieldFault}
 use Rattle.script_fields.specs.declared.values.TimingNumbers.{TimingNumbers}
 use Rattle.script_fields.specs.Fields.{◌>>=◌}
@@ -36,7 +39,7 @@ use Rattle.frame_script.specs.declared.cause.Cause.TheVariants.{BadLine, BadNumb
 use Rattle.frame_script.specs.declared.model_line.ModelNames.{ModelNames}
 use Rattle.frame_script.specs.declared.model_line.ModelLine.{ModelLine}
 use Rattle.frame_script.specs.Causes.{caused}
-use Rattle.frame_script.specs.Said.{alone, new_element, element_said, new_opacity, set_opacity_said, new_transform, set_transform_said, new_timeline, timeline_said, old_id, drop_element_said, drop_model_said, edit_said, named, ids_said, names_said, numbers_said, key_count_of, key_count_said, curve_line_said, after_numbers, after_names, after_model, model_said, step_said, key_parts, key_of, key_said, is_one, own_opacity, own_list, tick_said, compositor_said}
+use Rattle.frame_script.specs.Said.{alone, new_element, element_said, is_value_long, value_said, new_own, own_said, new_timeline, timeline_said, old_id, drop_element_said, drop_model_said, edit_said, named, ids_said, names_said, numbers_said, key_count_of, key_count_said, curve_line_said, after_numbers, after_names, after_model, model_said, step_said, key_parts, key_of, key_said, is_one, own_opacity, own_list, tick_said, compositor_said}
 
 -- ---- what is read
 
@@ -63,23 +66,37 @@ pub picked : {A : Type 0} (P : Type 0) (test : Bool) (first rest : Result A Caus
 picked P true first rest x f r h = f h
 picked P false first rest x f r h = r h
 
-both_true : (a b : Bool) → (a && b) ≡ true → (a ≡ true) × (b ≡ true)
-both_true true true h = (refl, refl)
-both_true true false h = absurd cc
-both_true false b h = absurd cc
-
 pub list_is_short : (fields : List (List ℕ)) → is_list_long fields ≡ true → length fields ≤ MOST_OPERATIONS
-list_is_short fields h = let b = both_true (leb 1 (length fields)) (leb (length fields) MOST_OPERATIONS) h in leb-true (length fields) MOST_OPERATIONS b.1
+list_is_short fields h = let b = and_parts (leb 1 (length fields)) (leb (length fields) MOST_OPERATIONS) h in leb-true (length fields) MOST_OPERATIONS b.1
+
+-- ---- values of a property
+
+pub own_opacity_fits : (value : List (List ℕ)) (v : ℕ) → is_one value ≡ true → own_opacity value ≡ Ok v → IsOpacity v
+own_opacity_fits [] v one h = absurd cc
+own_opacity_fits (field ∷ []) v one h = opacity_in_range field v (ok_or_is (opacity_said field) BadNumber v h)
+own_opacity_fits (field ∷ more ∷ others) v one h = absurd cc
+
+pub own_list_fits : (value : List (List ℕ)) (v : List TransformOp) → is_list_long value ≡ true → own_list value ≡ Ok v → IsList v
+unfolding own_list
+own_list_fits value v long h = list_in_range value v (list_is_short value long) (caused_is (list_read value) v h)
+
+value_in_range : (property : Property) (value : List (List ℕ)) (v : PropertyValue) → is_value_long property value ≡ true → value_said property value ≡ Ok v → IsPropertyValue v
+value_in_range Opacity value v long h =
+    let a = bind_ok (own_opacity value) (λ opacity. done (OpacityValue opacity)) v h in
+    subst IsPropertyValue (ok_is (OpacityValue a.0) v a.2) (own_opacity_fits value a.0 long a.1)
+value_in_range Transform value v long h =
+    let a = bind_ok (own_list value) (λ list. done (TransformValue list)) v h in
+    subst IsPropertyValue (ok_is (TransformValue a.0) v a.2) (own_list_fits value a.0 long a.1)
 
 -- ---- edits
 
 new_element_fits : (id opacity : List ℕ) (list : List (List ℕ)) (change : Change) → length list ≤ MOST_OPERATIONS → new_element id opacity list ≡ Ok change → IsChange change
 unfolding new_element
 new_element_fits id opacity list change short h =
-    let a = bind_ok (ok_or (id_said id) BadNumber) (λ name. ok_or (opacity_said opacity) BadNumber >>= λ own. caused (list_read list) >>= λ ops. done (AddElement name (record { opacity = own; transform = ops }))) change h in
-    let b = bind_ok (ok_or (opacity_said opacity) BadNumber) (λ own. caused (list_read list) >>= λ ops. done (AddElement a.0 (record { opacity = own; transform = ops }))) change a.2 in
-    let c = bind_ok (caused (list_read list)) (λ ops. done (AddElement a.0 (record { opacity = b.0; transform = ops }))) change b.2 in
-    subst IsChange (ok_is (AddElement a.0 (record { opacity = b.0; transform = c.0 })) change c.2) (
+    let a = bind_ok (ok_or (id_said id) BadNumber) (λ name. ok_or (opacity_said opacity) BadNumber >>= λ own. caused (list_read list) >>= λ ops. done (OnElements (AddElement name (record { opacity = own; transform = ops })))) change h in
+    let b = bind_ok (ok_or (opacity_said opacity) BadNumber) (λ own. caused (list_read list) >>= λ ops. done (OnElements (AddElement a.0 (record { opacity = own; transform = ops })))) change a.2 in
+    let c = bind_ok (caused (list_read list)) (λ ops. done (OnElements (AddElement a.0 (record { opacity = b.0; transform = ops })))) change b.2 in
+    subst IsChange (ok_is (OnElements (AddElement a.0 (record { opacity = b.0; transform = c.0 }))) change c.2) (
       id_in_range id a.0 (ok_or_is (id_said id) BadNumber a.0 a.1),
       record {
         opacity = opacity_in_range opacity b.0 (ok_or_is (opacity_said opacity) BadNumber b.0 b.1);
@@ -94,44 +111,28 @@ element_fits (id ∷ opacity ∷ list) change h =
     let g = guarded (is_list_long list) (new_element id opacity list) BadLine change h in
     new_element_fits id opacity list change (list_is_short list g.0) g.1
 
-new_opacity_fits : (id opacity : List ℕ) (change : Change) → new_opacity id opacity ≡ Ok change → IsChange change
-unfolding new_opacity
-new_opacity_fits id opacity change h =
-    let a = bind_ok (ok_or (id_said id) BadNumber) (λ name. ok_or (opacity_said opacity) BadNumber >>= λ own. done (SetOpacity name own)) change h in
-    let b = bind_ok (ok_or (opacity_said opacity) BadNumber) (λ own. done (SetOpacity a.0 own)) change a.2 in
-    subst IsChange (ok_is (SetOpacity a.0 b.0) change b.2) (
+new_own_fits : (property : Property) (id : List ℕ) (value : List (List ℕ)) (change : Change) → is_value_long property value ≡ true → new_own property id value ≡ Ok change → IsChange change
+unfolding new_own
+new_own_fits property id value change long h =
+    let a = bind_ok (ok_or (id_said id) BadNumber) (λ name. value_said property value >>= λ own. done (OnElements (SetOwn name own))) change h in
+    let b = bind_ok (value_said property value) (λ own. done (OnElements (SetOwn a.0 own))) change a.2 in
+    subst IsChange (ok_is (OnElements (SetOwn a.0 b.0)) change b.2) (
       id_in_range id a.0 (ok_or_is (id_said id) BadNumber a.0 a.1),
-      opacity_in_range opacity b.0 (ok_or_is (opacity_said opacity) BadNumber b.0 b.1),
+      value_in_range property value b.0 long b.1,
     )
 
-set_opacity_fits : (fields : List (List ℕ)) (change : Change) → set_opacity_said fields ≡ Ok change → IsChange change
-set_opacity_fits [] change h = absurd cc
-set_opacity_fits (id ∷ []) change h = absurd cc
-set_opacity_fits (id ∷ opacity ∷ []) change h = new_opacity_fits id opacity change h
-set_opacity_fits (id ∷ opacity ∷ more ∷ others) change h = absurd cc
-
-new_transform_fits : (id : List ℕ) (list : List (List ℕ)) (change : Change) → length list ≤ MOST_OPERATIONS → new_transform id list ≡ Ok change → IsChange change
-unfolding new_transform
-new_transform_fits id list change short h =
-    let a = bind_ok (ok_or (id_said id) BadNumber) (λ name. caused (list_read list) >>= λ ops. done (SetTransform name ops)) change h in
-    let b = bind_ok (caused (list_read list)) (λ ops. done (SetTransform a.0 ops)) change a.2 in
-    subst IsChange (ok_is (SetTransform a.0 b.0) change b.2) (
-      id_in_range id a.0 (ok_or_is (id_said id) BadNumber a.0 a.1),
-      list_in_range list b.0 short (caused_is (list_read list) b.0 b.1),
-    )
-
-set_transform_fits : (fields : List (List ℕ)) (change : Change) → set_transform_said fields ≡ Ok change → IsChange change
-set_transform_fits [] change h = absurd cc
-set_transform_fits (id ∷ list) change h =
-    let g = guarded (is_list_long list) (new_transform id list) BadLine change h in
-    new_transform_fits id list change (list_is_short list g.0) g.1
+own_fits : (property : Property) (fields : List (List ℕ)) (change : Change) → own_said property fields ≡ Ok change → IsChange change
+own_fits property [] change h = absurd cc
+own_fits property (id ∷ value) change h =
+    let g = guarded (is_value_long property value) (new_own property id value) BadLine change h in
+    new_own_fits property id value change g.0 g.1
 
 new_timeline_fits : (id origin : List ℕ) (change : Change) → new_timeline id origin ≡ Ok change → IsChange change
 unfolding new_timeline
 new_timeline_fits id origin change h =
-    let a = bind_ok (ok_or (id_said id) BadNumber) (λ name. ok_or (time_said origin) BadNumber >>= λ tick. done (AddTimeline name tick)) change h in
-    let b = bind_ok (ok_or (time_said origin) BadNumber) (λ tick. done (AddTimeline a.0 tick)) change a.2 in
-    subst IsChange (ok_is (AddTimeline a.0 b.0) change b.2) (
+    let a = bind_ok (ok_or (id_said id) BadNumber) (λ name. ok_or (time_said origin) BadNumber >>= λ tick. done (OnTimelines (AddTimeline name tick))) change h in
+    let b = bind_ok (ok_or (time_said origin) BadNumber) (λ tick. done (OnTimelines (AddTimeline a.0 tick))) change a.2 in
+    subst IsChange (ok_is (OnTimelines (AddTimeline a.0 b.0)) change b.2) (
       id_in_range id a.0 (ok_or_is (id_said id) BadNumber a.0 a.1),
       time_in_range origin b.0 (ok_or_is (time_said origin) BadNumber b.0 b.1),
     )
@@ -150,27 +151,25 @@ old_id_fits (field ∷ more ∷ others) id h = absurd cc
 drop_element_fits : (fields : List (List ℕ)) (change : Change) → drop_element_said fields ≡ Ok change → IsChange change
 unfolding drop_element_said
 drop_element_fits fields change h =
-    let a = bind_ok (old_id fields) (λ name. done (RemoveElement name)) change h in
-    subst IsChange (ok_is (RemoveElement a.0) change a.2) (old_id_fits fields a.0 a.1)
+    let a = bind_ok (old_id fields) (λ name. done (OnElements (RemoveElement name))) change h in
+    subst IsChange (ok_is (OnElements (RemoveElement a.0)) change a.2) (old_id_fits fields a.0 a.1)
 
 drop_model_fits : (fields : List (List ℕ)) (change : Change) → drop_model_said fields ≡ Ok change → IsChange change
 unfolding drop_model_said
 drop_model_fits fields change h =
-    let a = bind_ok (old_id fields) (λ name. done (RemoveModel name)) change h in
-    subst IsChange (ok_is (RemoveModel a.0) change a.2) (old_id_fits fields a.0 a.1)
+    let a = bind_ok (old_id fields) (λ name. done (OnModels (RemoveModel name))) change h in
+    subst IsChange (ok_is (OnModels (RemoveModel a.0)) change a.2) (old_id_fits fields a.0 a.1)
 
-edit_fits : (name : List ℕ) (fields : List (List ℕ)) (change : Change) → edit_said name fields ≡ Ok change → IsChange change
+edit_fits : (version : Version) (name : List ℕ) (fields : List (List ℕ)) (change : Change) → edit_said version name fields ≡ Ok change → IsChange change
 unfolding edit_said
-edit_fits name fields change h =
+edit_fits version name fields change h =
     picked (IsChange change) (bytes_eq name (codes "element")) (element_said fields) _ change (element_fits fields change) (
-    picked (IsChange change) (bytes_eq name (codes "opacity")) (set_opacity_said fields) _ change (set_opacity_fits fields change) (
-    picked (IsChange change) (bytes_eq name (codes "transform")) (set_transform_said fields) _ change (set_transform_fits fields change) (
     picked (IsChange change) (bytes_eq name (codes "timeline")) (timeline_said fields) _ change (timeline_fits fields change) (
     picked (IsChange change) (bytes_eq name (codes "drop-element")) (drop_element_said fields) _ change (drop_element_fits fields change) (
-    picked (IsChange change) (bytes_eq name (codes "drop-model")) (drop_model_said fields) (Err BadLine) change (drop_model_fits fields change)
-    (λ bad. absurd cc)
-    )
-    )
+    picked (IsChange change) (bytes_eq name (codes "drop-model")) (drop_model_said fields) (ok_or (property_said name) BadLine >>= λ property. own_said property fields) change (drop_model_fits fields change)
+    (λ k.
+    let p = bind_ok (ok_or (property_said name) BadLine) (λ property. own_said property fields) change k in
+    own_fits p.0 fields change p.2)
     )
     )
     ) h
@@ -179,14 +178,14 @@ alone_is : {A : Type 0} (said : A) (fields : List (List ℕ)) (x : A) → alone 
 alone_is said [] x h = ok_is said x h
 alone_is said (field ∷ others) x h = absurd cc
 
-pub step_in_range : (name : List ℕ) (fields : List (List ℕ)) (step : StepOfMain) → step_said name fields ≡ Ok step → IsStep step
+pub step_in_range : (version : Version) (name : List ℕ) (fields : List (List ℕ)) (step : StepOfMain) → step_said version name fields ≡ Ok step → IsStep step
 unfolding step_said
-step_in_range name fields step h =
+step_in_range version name fields step h =
     picked (IsStep step) (bytes_eq name (codes "commit")) (alone CommitStep fields) _ step (λ k. subst IsStep (alone_is CommitStep fields step k) tt) (
-    picked (IsStep step) (bytes_eq name (codes "drain")) (alone DrainStep fields) (edit_said name fields >>= λ change. done (EditStep change)) step (λ k. subst IsStep (alone_is DrainStep fields step k) tt) (
+    picked (IsStep step) (bytes_eq name (codes "drain")) (alone DrainStep fields) (edit_said version name fields >>= λ change. done (EditStep change)) step (λ k. subst IsStep (alone_is DrainStep fields step k) tt) (
     λ k.
-    let e = bind_ok (edit_said name fields) (λ change. done (EditStep change)) step k in
-    subst IsStep (ok_is (EditStep e.0) step e.2) (edit_fits name fields e.0 e.1)
+    let e = bind_ok (edit_said version name fields) (λ change. done (EditStep change)) step k in
+    subst IsStep (ok_is (EditStep e.0) step e.2) (edit_fits version name fields e.0 e.1)
     )
     ) h
 
@@ -248,7 +247,7 @@ count_is false n count h = absurd cc
 key_count_fits : (number : ℤ) (count : ℕ) → key_count_of number ≡ Some count → (FEWEST_KEYS ≤ count) × (count ≤ MOST_KEYS)
 key_count_fits (pos n) count h =
     let k = count_is (leb FEWEST_KEYS n && leb n MOST_KEYS) n count h in
-    let b = both_true (leb FEWEST_KEYS n) (leb n MOST_KEYS) k.0 in
+    let b = and_parts (leb FEWEST_KEYS n) (leb n MOST_KEYS) k.0 in
     (omega (arith, leb-true FEWEST_KEYS n b.0, k.1), omega (arith, leb-true n MOST_KEYS b.1, k.1))
 key_count_fits (negsuc n) count h = absurd cc
 
@@ -335,17 +334,8 @@ key_in_range is_value is_long says (a ∷ []) key fits h = absurd cc
 key_in_range is_value is_long says (a ∷ b ∷ []) key fits h = absurd cc
 key_in_range is_value is_long says (name ∷ time ∷ easing ∷ value) key fits h =
     let g = guarded (bytes_eq name (codes "key") && is_long value) (key_of says time easing value) BadLine key h in
-    let b = both_true (bytes_eq name (codes "key")) (is_long value) g.0 in
+    let b = and_parts (bytes_eq name (codes "key")) (is_long value) g.0 in
     key_of_fits is_value says time easing value key (λ v k. fits value v b.1 k) g.1
-
-pub own_opacity_fits : (value : List (List ℕ)) (v : ℕ) → is_one value ≡ true → own_opacity value ≡ Ok v → IsOpacity v
-own_opacity_fits [] v one h = absurd cc
-own_opacity_fits (field ∷ []) v one h = opacity_in_range field v (ok_or_is (opacity_said field) BadNumber v h)
-own_opacity_fits (field ∷ more ∷ others) v one h = absurd cc
-
-pub own_list_fits : (value : List (List ℕ)) (v : List TransformOp) → is_list_long value ≡ true → own_list value ≡ Ok v → IsList v
-unfolding own_list
-own_list_fits value v long h = list_in_range value v (list_is_short value long) (caused_is (list_read value) v h)
 
 -- ---- the compositor's steps
 
@@ -362,9 +352,9 @@ tick_fits (field ∷ []) step h =
     subst IsCompositorStep (ok_is (Tick a.0) step a.2) (time_in_range field a.0 (ok_or_is (time_said field) BadNumber a.0 a.1))
 tick_fits (field ∷ more ∷ others) step h = absurd cc
 
-pub compositor_in_range : (name : List ℕ) (fields : List (List ℕ)) (step : CompositorStep) → compositor_said name fields ≡ Ok step → IsCompositorStep step
+pub compositor_in_range : (version : Version) (name : List ℕ) (fields : List (List ℕ)) (step : CompositorStep) → compositor_said version name fields ≡ Ok step → IsCompositorStep step
 unfolding compositor_said
-compositor_in_range name fields step h =
+compositor_in_range version name fields step h =
     picked (IsCompositorStep step) (bytes_eq name (codes "pull")) (alone Pull fields) _ step (λ k. subst IsCompositorStep (alone_is Pull fields step k) tt) (
     picked (IsCompositorStep step) (bytes_eq name (codes "activate")) (alone Activate fields) _ step (λ k. subst IsCompositorStep (alone_is Activate fields step k) tt) (
     picked (IsCompositorStep step) (bytes_eq name (codes "tick")) (tick_said fields) (Err BadLine) step (tick_fits fields step) (λ bad. absurd cc)

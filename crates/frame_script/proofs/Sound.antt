@@ -1,10 +1,10 @@
 -- What is so in every state that lines lead to: what was read so far is well formed.
-use Rattle.std.proofs.Common.{◌≡◌, ℕ, ◌+◌, ◌*◌, ◌<◌, ◌≤◌, Bool, true, false, cond, leb, ltb, eqb, ◌&&◌, List, [], ◌∷◌, ◌++◌, length, length-append, Option, Some, None, Ok, Err, refl, ap, sym, subst, ◌∙◌, arith}
-use Rattle.std.specs.Prelude.{option_map, is_none, fold}
+use Rattle.std.proofs.Common.{◌≡◌, ℕ, ◌+◌, ◌*◌, ◌<◌, ◌≤◌, Bool, true, false, cond, leb, ltb, eqb, List, [], ◌∷◌, ◌++◌, length, length-append, Option, Some, None, Ok, Err, refl, ap, sym, subst, ◌∙◌, arith}
+use Rattle.std.specs.Prelude.{option_map, ok_or, is_none, fold}
 use Rattle.std.specs.List.{AllByRecursion}
 use Rattle.std.specs.Str.{bytes_eq}
 use Rattle.std.specs.Prelude.{codes}
-use Rattle.std.proofs.lemmas.Bool.{le-leb, ltb-true, ltb-false, eqb-true, eqb-false}
+use Rattle.std.proofs.lemmas.Bool.{and_parts, le-leb, ltb-true, ltb-false, eqb-true, eqb-false}
 use Rattle.std.proofs.lemmas.List.Elements.{All-from_recursion}
 use Rattle.anim_names.specs.Lanes.{letters_of}
 use Rattle.anim_names.specs.declared.lane.Lane.{Lane}
@@ -25,10 +25,10 @@ use Rattle.curve_keys.proofs.Keys.{IsCurve-lasts}
 use Rattle.keyframe_model.specs.Models.{PropertyCurve, OpacityCurve, TransformCurve, IsPropertyCurve, property_of_curve, curve_duration, IsModel}
 use Rattle.tree_commit.specs.declared.edits.refusal.EditRefusal.{EditRefusal}
 use Rattle.tree_commit.specs.declared.edits.refusal.EditRefusal.TheVariants.{Limit}
-use Rattle.tree_commit.specs.declared.runs.compositor_step.CompositorStep.{CompositorStep}
-use Rattle.tree_commit.specs.declared.runs.compositor_step.CompositorStep.TheVariants.{Pull, Activate, Tick}
-use Rattle.tree_commit.specs.Edits.{Book, new_book, AddModel, edit_refusal}
-use Rattle.tree_commit.specs.Scripts.{StepOfMain, EditStep, CommitStep, DrainStep, ScriptLists, IsWordOf, book_after_step, book_of, IsStep, is_allowed, are_allowed, ticks_of, never_fall_from, are_at_most, IsWellFormed}
+use Rattle.run_rules.specs.declared.compositor_step.CompositorStep.{CompositorStep}
+use Rattle.run_rules.specs.declared.compositor_step.CompositorStep.TheVariants.{Pull, Activate, Tick}
+use Rattle.tree_commit.specs.Edits.{Book, new_book, OnModels, AddModel, edit_refusal}
+use Rattle.run_rules.specs.Scripts.{StepOfMain, EditStep, CommitStep, DrainStep, ScriptLists, IsWordOf, book_after_step, book_of, IsStep, is_allowed, are_allowed, ticks_of, never_fall_from, are_at_most, IsWellFormed}
 use Rattle.script_fields.specs.Fields.{◌>>=◌, fields}
 use Rattle.script_fields.specs.Lists.{is_list_long}
 use Rattle.script_fields.proofs.Ranges.{bind_ok}
@@ -36,9 +36,10 @@ use Rattle.frame_script.specs.declared.cause.Cause.{Cause}
 use Rattle.frame_script.specs.declared.cause.Cause.TheVariants.{Edit, BadHeader, BadLine, BadCurve, TimeBack, BadWord}
 use Rattle.frame_script.specs.declared.model_line.ModelLine.{ModelLine}
 use Rattle.frame_script.specs.Causes.{demand, allow}
+use Rattle.frame_script.specs.Headers.{header_said}
 use Rattle.frame_script.specs.Lines.{is_skipped}
 use Rattle.frame_script.specs.Said.{SaysStep, SaysModel, main_said, model_said, step_said, key_said, is_one, own_opacity, own_list, compositor_said, word_said}
-use Rattle.frame_script.specs.States.{PropertyKeys, OpacityKeys, TransformKeys, Stage, AtHeader, AtMain, InMain, InModel, InCompositor, AtEnd, Ended, ScriptState, at, beginning, has_room, step_refusal, main_with, with_main, step_made, no_keys, model_allowed, model_begun, with_key, keys_with, key_count, taken_curve, curve_through, model_with, model_through, model_made, after_key, key_made, main_made, in_main, last_from, are_too_many, compositor_refusal, compositor_with, with_compositor, compositor_made, is_word_of, word_made, in_compositor, only, at_stage, after_line}
+use Rattle.frame_script.specs.States.{PropertyKeys, OpacityKeys, TransformKeys, Stage, AtHeader, AtMain, InMain, InModel, InCompositor, AtEnd, Ended, ScriptState, at, beginning, has_room, step_refusal, main_with, with_main, step_made, no_keys, model_allowed, model_begun, with_key, keys_with, key_count, taken_curve, curve_through, model_with, model_through, model_made, after_key, key_made, main_made, in_main, last_from, are_too_many, compositor_refusal, compositor_with, with_compositor, compositor_made, is_word_of, word_made, in_compositor, with_version, only, at_stage, after_line}
 use Rattle.frame_script.specs.Texts.{LeadTo, Spells}
 use Rattle.frame_script.proofs.Books.{allowed_is, ticks_with, ticks_of-push}
 use Rattle.frame_script.proofs.Ranges.{done, ok_is, guarded, picked, IsLine, line_in_range, step_in_range, key_in_range, own_opacity_fits, own_list_fits, IsCompositorStep, compositor_in_range}
@@ -51,17 +52,12 @@ pub record IsMain (steps : List StepOfMain) : Type 0 where
   pub ranges : AllByRecursion IsStep steps
   pub edits : are_allowed new_book steps ≡ true
 
-both_true : (a b : Bool) → (a && b) ≡ true → (a ≡ true) × (b ≡ true)
-both_true true true h = (refl, refl)
-both_true true false h = absurd cc
-both_true false b h = absurd cc
-
 are_allowed-push : (book : Book) (steps : List StepOfMain) (step : StepOfMain) → are_allowed book steps ≡ true
     → is_allowed (fold book_after_step book steps) step ≡ true → are_allowed book (steps ++ step ∷ []) ≡ true
 unfolding are_allowed
 are_allowed-push book [] step all here = rw here refl
 are_allowed-push book (first ∷ steps) step all here =
-    let b = both_true (is_allowed book first) (are_allowed (book_after_step book first) steps) all in
+    let b = and_parts (is_allowed book first) (are_allowed (book_after_step book first) steps) all in
     rw (b.0, are_allowed-push (book_after_step book first) steps step b.1 here) refl
 
 no_refusal : (refusal : Option EditRefusal) → option_map Edit refusal ≡ None → refusal ≡ None
@@ -107,13 +103,13 @@ record AreTicks (elements : ℕ) (ticks : List ℕ) : Type 0 where
 never_fall-push : (least : ℕ) (times : List ℕ) (time : ℕ) → never_fall_from least times ≡ true → last_from least times ≤ time → never_fall_from least (times ++ time ∷ []) ≡ true
 never_fall-push least [] time all le = rw (le-leb least time le) refl
 never_fall-push least (next ∷ times) time all le =
-    let b = both_true (leb least next) (never_fall_from next times) all in
+    let b = and_parts (leb least next) (never_fall_from next times) all in
     rw (b.0, never_fall-push next times time b.1 le) refl
 
 at_most-push : (most : ℕ) (times : List ℕ) (time : ℕ) → are_at_most most times ≡ true → time ≤ most → are_at_most most (times ++ time ∷ []) ≡ true
 at_most-push most [] time all le = rw (le-leb time most le) refl
 at_most-push most (next ∷ times) time all le =
-    let b = both_true (leb next most) (are_at_most most times) all in
+    let b = and_parts (leb next most) (are_at_most most times) all in
     rw (b.0, at_most-push most times time b.1 le) refl
 
 not_refused : (back many : Bool) → cond back (Some TimeBack) (cond many (Some (Edit (Limit Frames))) None) ≡ None → (back ≡ false) × (many ≡ false)
@@ -241,11 +237,11 @@ model_fits line curve fits is = record {
 model_made_fits : (script : ScriptLists) (line : ModelLine) (keys : PropertyKeys) (next : ScriptState) → IsMain script.main → IsDraft script line keys → model_made script line keys ≡ Ok next → IsSound next
 unfolding model_made model_through
 model_made_fits script line keys next main draft h =
-    let m = bind_ok (curve_through line.easing keys >>= λ curve. done (model_with line curve)) (λ model. step_made script (EditStep (AddModel model))) next h in
+    let m = bind_ok (curve_through line.easing keys >>= λ curve. done (model_with line curve)) (λ model. step_made script (EditStep (OnModels (AddModel model)))) next h in
     let c = bind_ok (curve_through line.easing keys) (λ curve. done (model_with line curve)) m.0 m.1 in
     let is = curve_through_fits line keys c.0 draft.line_fits draft.keys_fit c.1 in
     let model : IsModel m.0 = subst IsModel (ok_is (model_with line c.0) m.0 c.2) (model_fits line c.0 draft.line_fits is) in
-    step_made_fits script (EditStep (AddModel m.0)) next main draft.no_steps model m.2
+    step_made_fits script (EditStep (OnModels (AddModel m.0))) next main draft.no_steps model m.2
 
 -- the keys with a further one
 pub keys_with_fit : (line : ModelLine) (keys more : PropertyKeys) (text : List (List ℕ)) → AreKeysOf line keys → key_count keys < line.keys → keys_with keys text ≡ Ok more
@@ -300,14 +296,14 @@ main_fits : (script : ScriptLists) (text : List (List ℕ)) (next : ScriptState)
 unfolding in_main
 main_fits script [] next main none h = absurd cc
 main_fits script (name ∷ text) next main none h =
-    let s = bind_ok (main_said (name ∷ text)) (main_made script) next h in
-    picked (IsSound next) (bytes_eq name (codes "model")) (model_said text >>= λ line. done (SaysModel line)) (step_said name text >>= λ step. done (SaysStep step)) s.0
+    let s = bind_ok (main_said script.version (name ∷ text)) (main_made script) next h in
+    picked (IsSound next) (bytes_eq name (codes "model")) (model_said text >>= λ line. done (SaysModel line)) (step_said script.version name text >>= λ step. done (SaysStep step)) s.0
     (λ k.
     let m = bind_ok (model_said text) (λ line. done (SaysModel line)) s.0 k in
     model_begun_fits script m.0 next main none (line_in_range text m.0 m.1) (ap (main_made script) (ok_is (SaysModel m.0) s.0 m.2) ∙ s.2))
     (λ k.
-    let m = bind_ok (step_said name text) (λ step. done (SaysStep step)) s.0 k in
-    step_made_fits script m.0 next main none (step_in_range name text m.0 m.1) (ap (main_made script) (ok_is (SaysStep m.0) s.0 m.2) ∙ s.2))
+    let m = bind_ok (step_said script.version name text) (λ step. done (SaysStep step)) s.0 k in
+    step_made_fits script m.0 next main none (step_in_range script.version name text m.0 m.1) (ap (main_made script) (ok_is (SaysStep m.0) s.0 m.2) ∙ s.2))
     s.1
 
 -- ---- lines of the compositor
@@ -327,7 +323,7 @@ word_made_fits : (script : ScriptLists) (word : List Lane) (next : ScriptState) 
 unfolding word_made
 word_made_fits script word next main fits h =
     let d = bind_ok (demand (is_word_of (length script.main) (length script.compositor) word) BadWord) (λ counted. done (at AtEnd (record script { word = word }))) next h in
-    let b = both_true (eqb (letters_of Main word) (length script.main)) (eqb (letters_of Compositor word) (length script.compositor)) (demand_is _ BadWord d.1) in
+    let b = and_parts (eqb (letters_of Main word) (length script.main)) (eqb (letters_of Compositor word) (length script.compositor)) (demand_is _ BadWord d.1) in
     subst IsSound (ok_is (at AtEnd (record script { word = word })) next d.2) (record {
       main = main;
       stage = record {
@@ -344,11 +340,11 @@ compositor_fits : (script : ScriptLists) (text : List (List ℕ)) (next : Script
 unfolding in_compositor
 compositor_fits script [] next main fits h = absurd cc
 compositor_fits script (name ∷ text) next main fits h =
-    picked (IsSound next) (bytes_eq name (codes "word")) (word_said text >>= word_made script) (compositor_said name text >>= compositor_made script) next
+    picked (IsSound next) (bytes_eq name (codes "word")) (word_said text >>= word_made script) (compositor_said script.version name text >>= compositor_made script) next
     (λ k. let w = bind_ok (word_said text) (word_made script) next k in word_made_fits script w.0 next main fits w.2)
     (λ k.
-    let s = bind_ok (compositor_said name text) (compositor_made script) next k in
-    compositor_made_fits script s.0 next main fits (compositor_in_range name text s.0 s.1) s.2)
+    let s = bind_ok (compositor_said script.version name text) (compositor_made script) next k in
+    compositor_made_fits script s.0 next main fits (compositor_in_range script.version name text s.0 s.1) s.2)
     h
 
 -- ---- every line
@@ -361,7 +357,9 @@ only_fits text cause stage script line next main here h =
 
 stage_fits : (stage : Stage) (script : ScriptLists) (line : List ℕ) (next : ScriptState) → IsMain script.main → IsStage stage script → at_stage stage script line ≡ Ok next → IsSound next
 unfolding at_stage
-stage_fits AtHeader script line next main here h = only_fits (codes "anim 1") BadHeader AtMain script line next main here h
+stage_fits AtHeader script line next main here h =
+    let v = bind_ok (ok_or (header_said line) BadHeader) (λ version. done (at AtMain (with_version script version))) next h in
+    subst IsSound (ok_is (at AtMain (with_version script v.0)) next v.2) (record { main = main; stage = here })
 stage_fits AtMain script line next main here h = only_fits (codes "main") BadLine InMain script line next main here h
 stage_fits InMain script line next main here h =
     picked (IsSound next) (bytes_eq line (codes "compositor")) (done (at InCompositor script)) (in_main script (fields line)) next

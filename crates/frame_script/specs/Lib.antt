@@ -1,3 +1,4 @@
+pub mod Headers
 pub mod Lines
 pub mod Causes
 pub mod Said

@@ -6,23 +6,30 @@ use Rattle.anim_delegate.specs.declared.policy.Policy.{Policy}
 use Rattle.easing_fixed.specs.declared.easing.Easing.{Easing}
 use Rattle.curve_keys.specs.declared.key.Key.{Key}
 use Rattle.micro_time.specs.Timings.{TimingParts}
-use Rattle.keyframe_model.specs.Models.{Spec, PropertyCurve, OpacityCurve, TransformCurve, property_of_curve}
-use Rattle.tree_commit.specs.declared.runs.compositor_step.CompositorStep.{CompositorStep}
-use Rattle.tree_commit.specs.declared.runs.compositor_step.CompositorStep.TheVariants.{Pull, Activate, Tick}
-use Rattle.tree_commit.specs.Edits.{Change, AddElement, RemoveElement, SetOpacity, SetTransform, AddTimeline, AddModel, RemoveModel}
-use Rattle.tree_commit.specs.Scripts.{StepOfMain, EditStep, CommitStep, DrainStep, ScriptLists}
+use Rattle.keyframe_model.specs.Models.{Spec, PropertyCurve, OpacityCurve, TransformCurve, property_of_curve, PropertyValue, OpacityValue, TransformValue, property_of_value}
+use Rattle.run_rules.specs.declared.compositor_step.CompositorStep.{CompositorStep}
+use Rattle.run_rules.specs.declared.compositor_step.CompositorStep.TheVariants.{Pull, Activate, Tick}
+use Rattle.tree_commit.specs.Edits.{Change, ElementChange, TimelineChange, ModelChange, OnElements, OnTimelines, OnModels, AddElement, RemoveElement, SetOwn, AddTimeline, AddModel, RemoveModel}
+use Rattle.tree_commit.specs.Trees.{Look}
+use Rattle.run_rules.specs.Scripts.{StepOfMain, EditStep, CommitStep, DrainStep, ScriptLists}
 use Rattle.script_fields.specs.Fields.{joined}
+use Rattle.frame_script.specs.Headers.{header_text}
 use Rattle.script_fields.specs.Printed.{property_text, direction_text, fill_text, policy_text, word_text, start_text, iterations_text, easing_text, list_fields}
 
 -- a line of fields: it ends in a line feed
 abbrev pub line : List (List ℕ) → List ℕ
 line fields = joined fields ++ 10 ∷ []
 
--- ---- keys and models
+-- ---- values, keys and models
 
--- the fields of a key's value
+-- the fields of an opacity
 abbrev pub opacity_fields : ℕ → List (List ℕ)
 opacity_fields opacity = decimal opacity ∷ []
+
+-- the fields of a value
+abbrev pub value_fields : PropertyValue → List (List ℕ)
+value_fields (OpacityValue opacity) = opacity_fields opacity
+value_fields (TransformValue list) = list_fields list
 
 -- `key TIME EASING VALUE`
 abbrev pub key_fields : {V : Type 0} → (V → List (List ℕ)) → Key V → List (List ℕ)
@@ -71,14 +78,26 @@ model_lines model = line (model_fields model) ++ key_lines model.curve
 
 -- ---- steps
 
+-- `OPACITY LIST`
+abbrev pub look_fields : Look → List (List ℕ)
+look_fields look = decimal look.opacity ∷ list_fields look.transform
+
+abbrev pub element_lines : ElementChange → List ℕ
+element_lines (AddElement id look) = line (codes "element" ∷ decimal id ∷ look_fields look)
+element_lines (RemoveElement id) = line (codes "drop-element" ∷ decimal id ∷ [])
+element_lines (SetOwn id value) = line (property_text (property_of_value value) ∷ decimal id ∷ value_fields value)
+
+abbrev pub timeline_lines : TimelineChange → List ℕ
+timeline_lines (AddTimeline id origin) = line (codes "timeline" ∷ decimal id ∷ decimal origin ∷ [])
+
+abbrev pub lines_of_model : ModelChange → List ℕ
+lines_of_model (AddModel model) = model_lines model
+lines_of_model (RemoveModel id) = line (codes "drop-model" ∷ decimal id ∷ [])
+
 unfoldable pub edit_lines : Change → List ℕ
-edit_lines (AddElement id look) = line (codes "element" ∷ decimal id ∷ decimal look.opacity ∷ list_fields look.transform)
-edit_lines (RemoveElement id) = line (codes "drop-element" ∷ decimal id ∷ [])
-edit_lines (SetOpacity id opacity) = line (codes "opacity" ∷ decimal id ∷ decimal opacity ∷ [])
-edit_lines (SetTransform id transform) = line (codes "transform" ∷ decimal id ∷ list_fields transform)
-edit_lines (AddTimeline id origin) = line (codes "timeline" ∷ decimal id ∷ decimal origin ∷ [])
-edit_lines (AddModel model) = model_lines model
-edit_lines (RemoveModel id) = line (codes "drop-model" ∷ decimal id ∷ [])
+edit_lines (OnElements change) = element_lines change
+edit_lines (OnTimelines change) = timeline_lines change
+edit_lines (OnModels change) = lines_of_model change
 
 abbrev pub step_lines : StepOfMain → List ℕ
 step_lines (EditStep change) = edit_lines change
@@ -94,5 +113,5 @@ compositor_line (Tick time) = line (codes "tick" ∷ decimal time ∷ [])
 
 unfoldable pub script_text : ScriptLists → List ℕ
 script_text script =
-    line (codes "anim" ∷ codes "1" ∷ []) ++ line (codes "main" ∷ []) ++ flat_map step_lines script.main ++ line (codes "compositor" ∷ [])
+    line (header_text script.version ∷ []) ++ line (codes "main" ∷ []) ++ flat_map step_lines script.main ++ line (codes "compositor" ∷ [])
     ++ flat_map compositor_line script.compositor ++ line (codes "word" ∷ word_text script.word ∷ []) ++ line (codes "end" ∷ [])

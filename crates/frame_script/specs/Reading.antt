@@ -1,6 +1,6 @@
 -- Reading line by line up to the first line that is refused: what the relations of texts come to, as a function.
 use Rattle.std.specs.Prelude.{◌≡◌, ℕ, ◌+◌, nat_lt, List, [], ◌∷◌, length, Result, Ok, Err, if◌then◌else◌}
-use Rattle.tree_commit.specs.Scripts.{ScriptLists}
+use Rattle.run_rules.specs.Scripts.{ScriptLists}
 use Rattle.script_fields.specs.Fields.{◌>>=◌}
 use Rattle.frame_script.specs.declared.TheConstants.{MOST_BYTES}
 use Rattle.frame_script.specs.declared.cause.Cause.{Cause}

@@ -4,16 +4,19 @@ use Rattle.std.specs.Prelude.{ℕ, ◌==◌, ◌&&◌, nat_le, Bool, true, false
 use Rattle.std.specs.Str.{bytes_eq}
 use Rattle.anim_names.specs.declared.lane.Lane.{Lane}
 use Rattle.anim_names.specs.declared.property.Property.{Property}
+use Rattle.anim_names.specs.declared.property.Property.TheVariants.{Opacity, Transform}
+use Rattle.anim_names.specs.declared.version.Version.{Version}
 use Rattle.micro_time.specs.declared.direction.Direction.{Direction}
 use Rattle.micro_time.specs.declared.fill.Fill.{Fill}
 use Rattle.easing_fixed.specs.declared.easing.Easing.{Easing}
 use Rattle.transform_ops.specs.declared.op.TransformOp.{TransformOp}
 use Rattle.curve_keys.specs.declared.TheConstants.{FEWEST_KEYS, MOST_KEYS}
 use Rattle.curve_keys.specs.declared.key.Key.{Key}
-use Rattle.tree_commit.specs.declared.runs.compositor_step.CompositorStep.{CompositorStep}
-use Rattle.tree_commit.specs.declared.runs.compositor_step.CompositorStep.TheVariants.{Pull, Activate, Tick}
-use Rattle.tree_commit.specs.Edits.{Change, AddElement, RemoveElement, SetOpacity, SetTransform, AddTimeline, RemoveModel}
-use Rattle.tree_commit.specs.Scripts.{StepOfMain, EditStep, CommitStep, DrainStep}
+use Rattle.keyframe_model.specs.Models.{PropertyValue, OpacityValue, TransformValue}
+use Rattle.run_rules.specs.declared.compositor_step.CompositorStep.{CompositorStep}
+use Rattle.run_rules.specs.declared.compositor_step.CompositorStep.TheVariants.{Pull, Activate, Tick}
+use Rattle.tree_commit.specs.Edits.{Change, OnElements, OnTimelines, OnModels, AddElement, RemoveElement, SetOwn, AddTimeline, RemoveModel}
+use Rattle.run_rules.specs.Scripts.{StepOfMain, EditStep, CommitStep, DrainStep}
 use Rattle.script_fields.specs.declared.values.Count.{Count}
 use Rattle.script_fields.specs.declared.values.TimingNumbers.{TimingNumbers}
 use Rattle.script_fields.specs.Fields.{◌>>=◌}
@@ -33,6 +36,31 @@ abbrev pub alone : {A : Type 0} → A → List (List ℕ) → Result A Cause
 alone said [] = Ok said
 alone said (field ∷ others) = Err BadLine
 
+-- ---- values of a property
+
+-- the value of an opacity: one field
+abbrev pub is_one : List (List ℕ) → Bool
+is_one (field ∷ []) = true
+is_one other = false
+
+abbrev pub own_opacity : List (List ℕ) → Result ℕ Cause
+own_opacity (field ∷ []) = ok_or (opacity_said field) BadNumber
+own_opacity other = Err BadLine
+
+-- the value of a transform: a list
+unfoldable pub own_list : List (List ℕ) → Result (List TransformOp) Cause
+own_list fields = caused (list_read fields)
+
+-- this number of fields may spell a value of the property
+abbrev pub is_value_long : Property → List (List ℕ) → Bool
+is_value_long Opacity fields = is_one fields
+is_value_long Transform fields = is_list_long fields
+
+-- the value of the property that the fields spell
+abbrev pub value_said : Property → List (List ℕ) → Result PropertyValue Cause
+value_said Opacity fields = own_opacity fields >>= λ opacity. Ok (OpacityValue opacity)
+value_said Transform fields = own_list fields >>= λ list. Ok (TransformValue list)
+
 -- ---- edits
 
 -- `element ID OPACITY LIST`
@@ -41,40 +69,29 @@ new_element id opacity list = do
   name ← ok_or (id_said id) BadNumber
   own ← ok_or (opacity_said opacity) BadNumber
   ops ← caused (list_read list)
-  Ok (AddElement name (record { opacity = own; transform = ops }))
+  Ok (OnElements (AddElement name (record { opacity = own; transform = ops })))
 
 abbrev pub element_said : List (List ℕ) → Result Change Cause
 element_said (id ∷ opacity ∷ list) = if is_list_long list then new_element id opacity list else Err BadLine
 element_said other = Err BadLine
 
--- `opacity ID OPACITY`
-unfoldable pub new_opacity : List ℕ → List ℕ → Result Change Cause
-new_opacity id opacity = do
+-- `PROPERTY ID VALUE`
+unfoldable pub new_own : Property → List ℕ → List (List ℕ) → Result Change Cause
+new_own property id value = do
   name ← ok_or (id_said id) BadNumber
-  own ← ok_or (opacity_said opacity) BadNumber
-  Ok (SetOpacity name own)
+  own ← value_said property value
+  Ok (OnElements (SetOwn name own))
 
-abbrev pub set_opacity_said : List (List ℕ) → Result Change Cause
-set_opacity_said (id ∷ opacity ∷ []) = new_opacity id opacity
-set_opacity_said other = Err BadLine
-
--- `transform ID LIST`
-unfoldable pub new_transform : List ℕ → List (List ℕ) → Result Change Cause
-new_transform id list = do
-  name ← ok_or (id_said id) BadNumber
-  ops ← caused (list_read list)
-  Ok (SetTransform name ops)
-
-abbrev pub set_transform_said : List (List ℕ) → Result Change Cause
-set_transform_said (id ∷ list) = if is_list_long list then new_transform id list else Err BadLine
-set_transform_said other = Err BadLine
+abbrev pub own_said : Property → List (List ℕ) → Result Change Cause
+own_said property (id ∷ value) = if is_value_long property value then new_own property id value else Err BadLine
+own_said property [] = Err BadLine
 
 -- `timeline ID ZERO`
 unfoldable pub new_timeline : List ℕ → List ℕ → Result Change Cause
 new_timeline id origin = do
   name ← ok_or (id_said id) BadNumber
   tick ← ok_or (time_said origin) BadNumber
-  Ok (AddTimeline name tick)
+  Ok (OnTimelines (AddTimeline name tick))
 
 abbrev pub timeline_said : List (List ℕ) → Result Change Cause
 timeline_said (id ∷ origin ∷ []) = new_timeline id origin
@@ -88,23 +105,22 @@ old_id other = Err BadLine
 unfoldable pub drop_element_said : List (List ℕ) → Result Change Cause
 drop_element_said fields = do
   name ← old_id fields
-  Ok (RemoveElement name)
+  Ok (OnElements (RemoveElement name))
 
 unfoldable pub drop_model_said : List (List ℕ) → Result Change Cause
 drop_model_said fields = do
   name ← old_id fields
-  Ok (RemoveModel name)
+  Ok (OnModels (RemoveModel name))
 
--- an edit other than the adding of a model
-unfoldable pub edit_said : List ℕ → List (List ℕ) → Result Change Cause
-edit_said name fields =
+-- An edit other than the adding of a model, in this version of the language. A line that begins with a property sets an
+-- element's own value of it.
+unfoldable pub edit_said : Version → List ℕ → List (List ℕ) → Result Change Cause
+edit_said version name fields =
     if bytes_eq name (codes "element") then element_said fields else
-    if bytes_eq name (codes "opacity") then set_opacity_said fields else
-    if bytes_eq name (codes "transform") then set_transform_said fields else
     if bytes_eq name (codes "timeline") then timeline_said fields else
     if bytes_eq name (codes "drop-element") then drop_element_said fields else
     if bytes_eq name (codes "drop-model") then drop_model_said fields else
-    Err BadLine
+    (ok_or (property_said name) BadLine >>= λ property. own_said property fields)
 
 -- ---- the line of a model
 
@@ -210,17 +226,18 @@ pub data MainLine : Type 0 where
   SaysStep : StepOfMain → MainLine
   SaysModel : ModelLine → MainLine
 
-unfoldable pub step_said : List ℕ → List (List ℕ) → Result StepOfMain Cause
-step_said name fields =
+-- a step of main other than the adding of a model, in this version of the language
+unfoldable pub step_said : Version → List ℕ → List (List ℕ) → Result StepOfMain Cause
+step_said version name fields =
     if bytes_eq name (codes "commit") then alone CommitStep fields else
     if bytes_eq name (codes "drain") then alone DrainStep fields else
-    (edit_said name fields >>= λ change. Ok (EditStep change))
+    (edit_said version name fields >>= λ change. Ok (EditStep change))
 
-abbrev pub main_said : List (List ℕ) → Result MainLine Cause
-main_said [] = Err BadLine
-main_said (name ∷ fields) =
+abbrev pub main_said : Version → List (List ℕ) → Result MainLine Cause
+main_said version [] = Err BadLine
+main_said version (name ∷ fields) =
     if bytes_eq name (codes "model") then (model_said fields >>= λ line. Ok (SaysModel line)) else
-    (step_said name fields >>= λ step. Ok (SaysStep step))
+    (step_said version name fields >>= λ step. Ok (SaysStep step))
 
 -- ---- the line of a key
 
@@ -240,27 +257,15 @@ key_said is_long says (name ∷ time ∷ easing ∷ value) =
     if bytes_eq name (codes "key") && is_long value then key_of says time easing value else Err BadLine
 key_said is_long says other = Err BadLine
 
--- the value of an opacity's key: one field
-abbrev pub is_one : List (List ℕ) → Bool
-is_one (field ∷ []) = true
-is_one other = false
-
-abbrev pub own_opacity : List (List ℕ) → Result ℕ Cause
-own_opacity (field ∷ []) = ok_or (opacity_said field) BadNumber
-own_opacity other = Err BadLine
-
--- the value of a transform's key: a list
-unfoldable pub own_list : List (List ℕ) → Result (List TransformOp) Cause
-own_list fields = caused (list_read fields)
-
 -- ---- a line of the compositor
 
 abbrev pub tick_said : List (List ℕ) → Result CompositorStep Cause
 tick_said (time ∷ []) = ok_or (time_said time) BadNumber >>= λ t. Ok (Tick t)
 tick_said other = Err BadLine
 
-unfoldable pub compositor_said : List ℕ → List (List ℕ) → Result CompositorStep Cause
-compositor_said name fields =
+-- a step of the compositor, in this version of the language
+unfoldable pub compositor_said : Version → List ℕ → List (List ℕ) → Result CompositorStep Cause
+compositor_said version name fields =
     if bytes_eq name (codes "pull") then alone Pull fields else
     if bytes_eq name (codes "activate") then alone Activate fields else
     if bytes_eq name (codes "tick") then tick_said fields else

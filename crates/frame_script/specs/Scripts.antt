@@ -1,8 +1,9 @@
 -- A script by its parts.
 use Rattle.std.specs.Prelude.{List}
 use Rattle.anim_names.specs.declared.lane.Lane.{Lane}
-use Rattle.tree_commit.specs.declared.runs.compositor_step.CompositorStep.{CompositorStep}
-use Rattle.tree_commit.specs.Scripts.{StepOfMain, ScriptLists}
+use Rattle.anim_names.specs.declared.version.Version.{Version}
+use Rattle.run_rules.specs.declared.compositor_step.CompositorStep.{CompositorStep}
+use Rattle.run_rules.specs.Scripts.{StepOfMain, ScriptLists}
 
-abbrev pub script_parts : List StepOfMain → List CompositorStep → List Lane → ScriptLists
-script_parts main compositor word = record { main = main; compositor = compositor; word = word }
+abbrev pub script_parts : Version → List StepOfMain → List CompositorStep → List Lane → ScriptLists
+script_parts version main compositor word = record { version = version; main = main; compositor = compositor; word = word }

@@ -1,11 +1,13 @@
 -- What stands between two lines of a script, and what a line makes of it.
-use Rattle.std.specs.Prelude.{ℕ, ◌+◌, ◌*◌, ◌==◌, ◌&&◌, nat_lt, is_none, Bool, List, [], ◌∷◌, ◌++◌, length, Option, Some, None, Result, Ok, Err, if◌then◌else◌, codes, option_map}
+use Rattle.std.specs.Prelude.{ℕ, ◌+◌, ◌*◌, ◌==◌, ◌&&◌, nat_lt, is_none, Bool, List, [], ◌∷◌, ◌++◌, length, Option, Some, None, Result, Ok, Err, if◌then◌else◌, codes, option_map, ok_or}
 use Rattle.std.specs.Str.{bytes_eq}
 use Rattle.anim_names.specs.Lanes.{letters_of}
 use Rattle.anim_names.specs.declared.lane.Lane.{Lane}
 use Rattle.anim_names.specs.declared.lane.Lane.TheVariants.{Main, Compositor}
 use Rattle.anim_names.specs.declared.limit.LimitName.TheVariants.{Steps, Commits, Frames}
 use Rattle.anim_names.specs.declared.limit.TheConstants.{MOST_STEPS, MOST_COMMITS, MOST_FRAMES}
+use Rattle.anim_names.specs.declared.version.Version.{Version}
+use Rattle.anim_names.specs.declared.version.Version.TheVariants.{One}
 use Rattle.anim_names.specs.declared.property.Property.{Property}
 use Rattle.anim_names.specs.declared.property.Property.TheVariants.{Opacity, Transform}
 use Rattle.micro_time.specs.Timings.{TimingParts}
@@ -15,10 +17,10 @@ use Rattle.curve_keys.specs.declared.key.Key.{Key}
 use Rattle.curve_keys.specs.Curves.{Keyframes, keyframes, last_time, curve_refusal}
 use Rattle.keyframe_model.specs.Models.{PropertyCurve, OpacityCurve, TransformCurve, Spec, model_parts, curve_duration}
 use Rattle.tree_commit.specs.declared.edits.refusal.EditRefusal.TheVariants.{Limit}
-use Rattle.tree_commit.specs.declared.runs.compositor_step.CompositorStep.{CompositorStep}
-use Rattle.tree_commit.specs.declared.runs.compositor_step.CompositorStep.TheVariants.{Pull, Activate, Tick}
-use Rattle.tree_commit.specs.Edits.{Book, AddModel, edit_refusal, model_refusal}
-use Rattle.tree_commit.specs.Scripts.{StepOfMain, EditStep, CommitStep, DrainStep, ScriptLists, book_of, ticks_of}
+use Rattle.run_rules.specs.declared.compositor_step.CompositorStep.{CompositorStep}
+use Rattle.run_rules.specs.declared.compositor_step.CompositorStep.TheVariants.{Pull, Activate, Tick}
+use Rattle.tree_commit.specs.Edits.{Book, OnModels, AddModel, edit_refusal, model_refusal}
+use Rattle.run_rules.specs.Scripts.{StepOfMain, EditStep, CommitStep, DrainStep, ScriptLists, book_of, ticks_of}
 use Rattle.script_fields.specs.Fields.{◌>>=◌, fields}
 use Rattle.script_fields.specs.Lists.{is_list_long}
 use Rattle.frame_script.specs.declared.cause.Cause.{Cause}
@@ -26,6 +28,7 @@ use Rattle.frame_script.specs.declared.cause.Cause.TheVariants.{Edit, BadHeader,
 use Rattle.frame_script.specs.declared.model_line.ModelNames.{ModelNames}
 use Rattle.frame_script.specs.declared.model_line.ModelLine.{ModelLine}
 use Rattle.frame_script.specs.Causes.{demand, allow}
+use Rattle.frame_script.specs.Headers.{header_said}
 use Rattle.frame_script.specs.Lines.{is_skipped}
 use Rattle.frame_script.specs.Said.{MainLine, SaysStep, SaysModel, main_said, key_said, is_one, own_opacity, own_list, compositor_said, word_said}
 
@@ -55,8 +58,9 @@ pub record ScriptState : Type 0 where
 abbrev pub at : Stage → ScriptLists → ScriptState
 at stage script = record { stage = stage; script = script }
 
+-- no step; what the version is shows only after the header
 abbrev pub empty_script : ScriptLists
-empty_script = record { main = []; compositor = []; word = [] }
+empty_script = record { version = One; main = []; compositor = []; word = [] }
 
 -- before the first line, and after the last one of a script
 abbrev pub beginning : ScriptState
@@ -156,7 +160,7 @@ model_through line keys = do
 unfoldable pub model_made : ScriptLists → ModelLine → PropertyKeys → Result ScriptState Cause
 model_made script line keys = do
   model ← model_through line keys
-  step_made script (EditStep (AddModel model))
+  step_made script (EditStep (OnModels (AddModel model)))
 
 abbrev pub after_key : ScriptLists → ModelLine → PropertyKeys → Result ScriptState Cause
 after_key script line keys =
@@ -173,7 +177,7 @@ main_made script (SaysStep step) = step_made script step
 main_made script (SaysModel line) = model_begun script line
 
 unfoldable pub in_main : ScriptLists → List (List ℕ) → Result ScriptState Cause
-in_main script line = main_said line >>= main_made script
+in_main script line = main_said script.version line >>= main_made script
 
 -- ---- the compositor's steps
 
@@ -228,9 +232,12 @@ unfoldable pub in_compositor : ScriptLists → List (List ℕ) → Result Script
 in_compositor script [] = Err BadLine
 in_compositor script (name ∷ line) =
     if bytes_eq name (codes "word") then (word_said line >>= word_made script) else
-    (compositor_said name line >>= compositor_made script)
+    (compositor_said script.version name line >>= compositor_made script)
 
 -- ---- lines
+
+abbrev pub with_version : ScriptLists → Version → ScriptLists
+with_version script version = record script { version = version }
 
 -- exactly this line leads to the stage
 abbrev pub only : List ℕ → Cause → Stage → ScriptLists → List ℕ → Result ScriptState Cause
@@ -238,7 +245,7 @@ only text cause stage script line = if bytes_eq line text then Ok (at stage scri
 
 -- what a line makes of the stage and of the script so far
 unfoldable pub at_stage : Stage → ScriptLists → List ℕ → Result ScriptState Cause
-at_stage AtHeader script line = only (codes "anim 1") BadHeader AtMain script line
+at_stage AtHeader script line = ok_or (header_said line) BadHeader >>= λ version. Ok (at AtMain (with_version script version))
 at_stage AtMain script line = only (codes "main") BadLine InMain script line
 at_stage InMain script line =
     if bytes_eq line (codes "compositor") then Ok (at InCompositor script) else in_main script (fields line)

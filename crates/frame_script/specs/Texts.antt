@@ -1,6 +1,6 @@
 -- Which bytes spell a script, and which are refused, at which line and why.
 use Rattle.std.specs.Prelude.{◌≡◌, ◌≢◌, ◌⊎◌, ℕ, ◌+◌, ◌<◌, ◌≤◌, List, [], ◌∷◌, ◌++◌, length, Ok, Err}
-use Rattle.tree_commit.specs.Scripts.{ScriptLists}
+use Rattle.run_rules.specs.Scripts.{ScriptLists}
 use Rattle.frame_script.specs.declared.TheConstants.{MOST_BYTES}
 use Rattle.frame_script.specs.declared.cause.Cause.{Cause}
 use Rattle.frame_script.specs.declared.cause.Cause.TheVariants.{MissingPart, TooLong}

@@ -2,6 +2,7 @@
 use Rattle.std.specs.Prelude.{ℕ, ◌-◌, List, [], ◌∷◌, ◌++◌, take, drop, codes, pos, negsuc, None, Some}
 use Rattle.std.specs.List.{flat_map}
 use Rattle.anim_names.specs.declared.lane.Lane.TheVariants.{Main, Compositor}
+use Rattle.anim_names.specs.declared.version.Version.TheVariants.{One}
 use Rattle.anim_delegate.specs.declared.policy.Policy.TheVariants.{Auto, Manual}
 use Rattle.micro_time.specs.declared.direction.Direction.TheVariants.{Normal, AlternateReverse}
 use Rattle.micro_time.specs.declared.fill.Fill.TheVariants.{Neither, Both}
@@ -16,10 +17,10 @@ use Rattle.transform_ops.specs.declared.op.TransformOp.{TransformOp}
 use Rattle.transform_ops.specs.declared.op.TransformOp.TheVariants.{Translate, Scale, Rotate, Skew}
 use Rattle.curve_keys.specs.declared.key.Key.{Key}
 use Rattle.curve_keys.specs.Curves.{keyframes}
-use Rattle.keyframe_model.specs.Models.{OpacityCurve, TransformCurve, model_parts}
-use Rattle.tree_commit.specs.declared.runs.compositor_step.CompositorStep.TheVariants.{Pull, Activate, Tick}
-use Rattle.tree_commit.specs.Edits.{AddElement, RemoveElement, SetOpacity, SetTransform, AddTimeline, AddModel, RemoveModel}
-use Rattle.tree_commit.specs.Scripts.{EditStep, CommitStep, DrainStep, ScriptLists}
+use Rattle.keyframe_model.specs.Models.{OpacityCurve, TransformCurve, OpacityValue, TransformValue, model_parts}
+use Rattle.run_rules.specs.declared.compositor_step.CompositorStep.TheVariants.{Pull, Activate, Tick}
+use Rattle.tree_commit.specs.Edits.{OnElements, OnTimelines, OnModels, AddElement, RemoveElement, SetOwn, AddTimeline, AddModel, RemoveModel}
+use Rattle.run_rules.specs.Scripts.{EditStep, CommitStep, DrainStep, ScriptLists}
 
 -- each line ends in a line feed
 abbrev pub ended : List ℕ → List ℕ
@@ -38,7 +39,7 @@ abbrev pub empty : List (List ℕ)
 empty = codes "anim 1" ∷ codes "main" ∷ codes "compositor" ∷ codes "word -" ∷ codes "end" ∷ []
 
 abbrev pub empty_script : ScriptLists
-empty_script = record { main = []; compositor = []; word = [] }
+empty_script = record { version = One; main = []; compositor = []; word = [] }
 
 abbrev pub fade : List (List ℕ)
 fade =
@@ -65,9 +66,10 @@ key time easing value = record { time = time; easing = easing; value = value }
 
 abbrev pub fade_script : ScriptLists
 fade_script = record {
-  main = EditStep (AddTimeline 1 0)
-      ∷ EditStep (AddElement 1 (record { opacity = 1000000; transform = [] }))
-      ∷ EditStep (AddModel (model_parts 1 1 1 1 None (timing_parts 1000000 (pos 0) (Finite 1000) 0 Normal Neither (pos 1000)) Auto (OpacityCurve (keyframes (key 0 Linear 0 ∷ key 1000000 Linear 1000000 ∷ []) Linear))))
+  version = One;
+  main = EditStep (OnTimelines (AddTimeline 1 0))
+      ∷ EditStep (OnElements (AddElement 1 (record { opacity = 1000000; transform = [] })))
+      ∷ EditStep (OnModels (AddModel (model_parts 1 1 1 1 None (timing_parts 1000000 (pos 0) (Finite 1000) 0 Normal Neither (pos 1000)) Auto (OpacityCurve (keyframes (key 0 Linear 0 ∷ key 1000000 Linear 1000000 ∷ []) Linear)))))
       ∷ CommitStep
       ∷ [];
   compositor = Pull ∷ Activate ∷ Tick 16000 ∷ Tick 349333 ∷ Tick 516000 ∷ [];
@@ -120,14 +122,15 @@ three_keys =
 
 abbrev pub all_kinds_script : ScriptLists
 all_kinds_script = record {
-  main = EditStep (AddTimeline 4294967295 1125899906842624)
-      ∷ EditStep (AddElement 7 (record { opacity = 0; transform = four }))
-      ∷ EditStep (AddModel (model_parts 2 3 7 4294967295 (Some 5) (timing_parts 68719476736 (negsuc 999) Infinite 500 AlternateReverse Both (pos 1)) Manual (TransformCurve (keyframes three_keys (Cubic (cubic_parts (pos 420000) (pos 0) (pos 1000000) (pos 1000000)))))))
-      ∷ EditStep (SetOpacity 7 250000)
-      ∷ EditStep (SetTransform 7 [])
+  version = One;
+  main = EditStep (OnTimelines (AddTimeline 4294967295 1125899906842624))
+      ∷ EditStep (OnElements (AddElement 7 (record { opacity = 0; transform = four })))
+      ∷ EditStep (OnModels (AddModel (model_parts 2 3 7 4294967295 (Some 5) (timing_parts 68719476736 (negsuc 999) Infinite 500 AlternateReverse Both (pos 1)) Manual (TransformCurve (keyframes three_keys (Cubic (cubic_parts (pos 420000) (pos 0) (pos 1000000) (pos 1000000))))))))
+      ∷ EditStep (OnElements (SetOwn 7 (OpacityValue 250000)))
+      ∷ EditStep (OnElements (SetOwn 7 (TransformValue [])))
       ∷ DrainStep
-      ∷ EditStep (RemoveModel 2)
-      ∷ EditStep (RemoveElement 7)
+      ∷ EditStep (OnModels (RemoveModel 2))
+      ∷ EditStep (OnElements (RemoveElement 7))
       ∷ CommitStep
       ∷ [];
   compositor = Tick 0 ∷ Tick 1125899906842624 ∷ [];

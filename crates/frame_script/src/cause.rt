@@ -1,3 +1,6 @@
+//! The causes for which a line of a script is refused, and a text for each. Which of them comes first is decided
+//! where lines are read.
+
 use std::error::Error;
 use std::fmt;
 use std::fmt::{Display, Formatter, Write};

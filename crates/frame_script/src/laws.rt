@@ -1,7 +1,7 @@
 //! Laws of the definitions: each function's clauses are one, and its body does nothing.
 
 ghost use Rattle.std.specs.Prelude.{◌≡◌, ◌<◌, ◌⊎◌, ℕ, List, take, Ok, Err};
-ghost use Rattle.tree_commit.specs.Scripts.{ScriptLists, IsWellFormed};
+ghost use Rattle.run_rules.specs.Scripts.{ScriptLists, IsWellFormed};
 ghost use Rattle.frame_script.specs.declared.cause.Cause.{Cause};
 ghost use Rattle.frame_script.specs.Reading.{refusal, reading};
 ghost use Rattle.frame_script.specs.Lines.{lines};

@@ -1,3 +1,5 @@
+//! What the line of a model says before its keys are read: names, timing, policy and easing.
+
 use anim_delegate::Policy;
 use anim_names::{ElementId, GroupId, ModelId, Property, TimelineId};
 use easing_fixed::Easing;

@@ -1,18 +1,22 @@
+//! Well-formed scripts: the steps of each lane and a word of them, which may be replaced by another. Reading and
+//! printing are not done here.
+
 ghost use Rattle.std.specs.Prelude.{◌≡◌, ◌↔◌, true, false, length, map, IsTrue, IfOk, OnErr, Ok};
-ghost use Rattle.tree_commit.specs.Scripts.{IsWellFormed, IsWordOf};
-ghost use Rattle.tree_commit.specs.Views.{step_of};
+ghost use Rattle.run_rules.specs.Scripts.{IsWellFormed, IsWordOf};
+ghost use Rattle.run_rules.specs.Views.{step_of};
 ghost use Rattle.frame_script.specs.Scripts.{script_parts};
 
 use crate::word::is_word_of;
-use anim_names::Lane;
+use anim_names::{Lane, Version};
+use run_rules::{CompositorStep, MainStep};
 use std::alloc::AllocError;
 use std::marker::Model;
-use tree_commit::{CompositorStep, MainStep};
 
-/// A well-formed script: the steps of main, those of the compositor, and a word of the two.
+/// A well-formed script: the version of its language, the steps of main, those of the compositor, and a word of the two.
 ///
-/// Contracts see the three lists. It does not know which text it was read from.
+/// Contracts see the version and the three lists. It does not know which text it was read from.
 pub struct Script {
+    version: Version,
     main: Vec<MainStep>,
     compositor: Vec<CompositorStep>,
     word: Vec<Lane>,
@@ -21,6 +25,7 @@ pub struct Script {
 impl Drop for Script {
     fn drop(self) {
         let Script {
+            version: _,
             main: _main,
             compositor: _compositor,
             word: _word,
@@ -30,28 +35,41 @@ impl Drop for Script {
 
 impl Model for Script {
     ghost use Rattle.std.specs.Prelude.{map};
-    ghost use Rattle.tree_commit.specs.Scripts.{ScriptLists, IsWellFormed};
-    ghost use Rattle.tree_commit.specs.Views.{step_of};
+    ghost use Rattle.run_rules.specs.Scripts.{ScriptLists, IsWellFormed};
+    ghost use Rattle.run_rules.specs.Views.{step_of};
     ghost use Rattle.frame_script.specs.Scripts.{script_parts};
 
     ghost Value = { ScriptLists };
 
-    ghost view = { λ s. script_parts (map step_of s.main.items) s.compositor.items s.word.items };
+    ghost view = { λ s. script_parts s.version (map step_of s.main.items) s.compositor.items s.word.items };
 
-    ghost invariant = { λ s. IsWellFormed (script_parts (map step_of s.main.items) s.compositor.items s.word.items) };
+    ghost invariant = { λ s. IsWellFormed (script_parts s.version (map step_of s.main.items) s.compositor.items s.word.items) };
 }
 
 impl Script {
-    /// The script of these lists, which are well formed.
-    pub fn new(main: Vec<MainStep>, compositor: Vec<CompositorStep>, word: Vec<Lane>) -> Script
-        requires { IsWellFormed (script_parts (map step_of main.items) compositor.items word.items) }
-        ensures { result ≡ script_parts (map step_of main.items) compositor.items word.items }
+    /// The script of a version and of these lists, which are well formed.
+    pub fn new(
+        version: Version,
+        main: Vec<MainStep>,
+        compositor: Vec<CompositorStep>,
+        word: Vec<Lane>,
+    ) -> Script
+        requires { IsWellFormed (script_parts version (map step_of main.items) compositor.items word.items) }
+        ensures { result ≡ script_parts version (map step_of main.items) compositor.items word.items }
     {
         Script {
+            version,
             main,
             compositor,
             word,
         }
+    }
+
+    /// The version of the language that the script is written in.
+    pub fn version(&self) -> Version
+        ensures { result ≡ self.now.version }
+    {
+        self.version
     }
 
     /// Main's steps, in order.

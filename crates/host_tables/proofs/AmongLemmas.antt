@@ -1,4 +1,4 @@
--- Models of a commit by their places: no two have one id.
+-- Models of a commit by their indices: no two have one id.
 use Rattle.std.proofs.Common.{◌≡◌, ℕ, zero, suc, ◌+◌, true, false, ◌||◌, List, [], ◌∷◌, map, take, drop, Some, refl, sym, ap, ◌∙◌, nat_eq, inl, inr}
 use Rattle.std.specs.Prelude.{slice_get, ◌==◌}
 use Rattle.std.specs.List.{IsDistinct, AllByRecursion}
@@ -7,10 +7,10 @@ use Rattle.std.proofs.Math.Bool.{or-false, or_assoc}
 use Rattle.std.proofs.lemmas.Bool.Decides.{eqb_tells}
 use Rattle.std.proofs.lemmas.Option.{none-some, same_Some}
 use Rattle.std.proofs.lemmas.Map.Keys.{IsDistinct-head, IsDistinct-tail}
+use Rattle.anim_names.specs.Lists.{IsAmong}
 use Rattle.keyframe_model.specs.Models.{Spec}
-use Rattle.tree_commit.proofs.Among.{among-found, among-has}
+use Rattle.tree_commit.proofs.Among.{among-found, among-has, drop-found}
 use Rattle.host_tables.specs.States.{is_among}
-use Rattle.host_tables.proofs.LoopLemmas.{drop-found}
 
 -- one more of the first models
 pub among-taken : (models : List Spec) (i : ℕ) (model : Spec) (id : ℕ) → slice_get models i ≡ Some model
@@ -62,7 +62,13 @@ apart-before (x ∷ models) zero model differ found = refl
 apart-before (x ∷ models) (suc i) model differ found =
     ap (λ b. b || is_among (take i models) model.id) (other-than x.id models i model (IsDistinct-head nat_eq x.id (map (λ m. m.id) models) differ) found) ∙ apart-before models i model (IsDistinct-tail nat_eq x.id (map (λ m. m.id) models) differ) found
 
--- ---- by place
+-- ---- by index
+
+-- where an element of a list stands
+pub index-of : {A : Type 0} (x : A) (xs : List A) → IsAmong x xs → (k : ℕ) × (slice_get xs k ≡ Some x)
+index-of x [] there = absurd there
+index-of x (y ∷ xs) (inl same) = (0, ap Some (sym same))
+index-of x (y ∷ xs) (inr rest) = let found = index-of x xs rest in (suc found.0, found.1)
 
 pub found-there : (models : List Spec) (i : ℕ) (model : Spec) → slice_get models i ≡ Some model → is_among models model.id ≡ true
 found-there models i model found = among-has model models (among-found model models i found)

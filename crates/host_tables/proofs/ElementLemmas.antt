@@ -2,16 +2,17 @@
 use Rattle.std.proofs.Common.{◌≡◌, ◌≢◌, ℕ, zero, suc, ◌+◌, Bool, true, false, ◌||◌, inl, inr, List, [], ◌∷◌, take, Option, Some, None, refl, sym, ap, ◌∙◌, add-one}
 use Rattle.std.specs.Prelude.{◌==◌, ◌&&◌, slice_get, if◌then◌else◌}
 use Rattle.std.proofs.lemmas.Option.{none-some, same_Some}
-use Rattle.std.proofs.lemmas.Bool.{eq-eqb}
+use Rattle.std.proofs.lemmas.Bool.{eq-eqb, or_right}
 use Rattle.std.proofs.Math.Bool.{or-false, or_assoc}
 use Rattle.std.proofs.lemmas.Bool.Decides.{eqb_tells}
 use Rattle.anim_names.specs.declared.lane.Tree.{Tree}
 use Rattle.anim_names.specs.declared.property.Property.{Property}
 use Rattle.anim_names.specs.declared.lane.Tree.TheVariants.{Active, Pending}
 use Rattle.element_anims.specs.Elements.{Anims, IsSetPresent, blocker_of, is_present, is_tree}
-use Rattle.tree_commit.specs.declared.runs.mark.Mark.{Mark}
+use Rattle.run_rules.specs.declared.mark.Mark.{Mark}
 use Rattle.tree_commit.specs.Trees.{Committed, Element, has_element}
-use Rattle.host_tables.specs.Blocks.{BlocksStand, is_held_by}
+use Rattle.host_tables.specs.Blocks.{BlocksStand}
+use Rattle.element_anims.specs.Rows.{is_blocked_by}
 use Rattle.host_tables.specs.Elements.{AreSet, PresenceStands, has_in, is_listed}
 
 pub apart-test : (a b : ℕ) → a ≢ b → (a == b) ≡ false
@@ -27,16 +28,12 @@ listed-taken (x ∷ elements) zero element id found = or-false (id == x.id) ∙ 
 listed-taken (x ∷ elements) (suc i) element id found =
     ap (λ b. (id == x.id) || b) (listed-taken elements i element id found) ∙ sym (or_assoc (id == x.id) (is_listed (take i elements) id) (id == element.id))
 
--- an element that is found at a place is listed
+-- an element that is found at a index is listed
 pub found-listed : (elements : List Element) (i : ℕ) (element : Element) → slice_get elements i ≡ Some element → is_listed elements element.id ≡ true
 found-listed [] i element found = absurd (none-some element found)
 found-listed (x ∷ elements) zero element found =
     ap (λ b. b || is_listed elements element.id) (eq-eqb element.id x.id (ap (λ (m : Element). m.id) (sym (same_Some x element found))))
-found-listed (x ∷ elements) (suc i) element found = or-last (element.id == x.id) (is_listed elements element.id) (found-listed elements i element found)
-  where
-    or-last : (a b : Bool) → b ≡ true → (a || b) ≡ true
-    or-last true b is = refl
-    or-last false b is = is
+found-listed (x ∷ elements) (suc i) element found = or_right (element.id == x.id) (is_listed elements element.id) (found-listed elements i element found)
 
 both : (tree listed here there old : Bool)
     → (if tree && here then there else (if tree && listed then there else old)) ≡ (if tree && (listed || here) then there else old)
@@ -107,4 +104,4 @@ swapped-pending listed old is = ap (λ (b : Bool). if listed then false else b) 
 -- the same groups block the same
 pub blocks-same : (old new : Anims) (marks : List Mark) → ((e : ℕ) (p : Property) → blocker_of new e p ≡ blocker_of old e p)
     → BlocksStand old marks → BlocksStand new marks
-blocks-same old new marks same stand = λ g e p. ap (is_held_by g) (same e p) ∙ stand g e p
+blocks-same old new marks same stand = λ g e p. ap (is_blocked_by g) (same e p) ∙ stand g e p

@@ -1,5 +1,5 @@
 -- Rows of groups: what one more mark changes, and what one more model does.
-use Rattle.std.proofs.Common.{◌≡◌, ◌≢◌, ℕ, suc, zero, ◌+◌, ◌≤◌, Bool, true, false, List, [], ◌∷◌, ◌++◌, length, map, take, filter, cond, Option, Some, None, refl, sym, ap, ◌∙◌, subst, nat_eq, arith, inl, inr}
+use Rattle.std.proofs.Common.{◌≡◌, ◌≢◌, ℕ, suc, zero, ◌+◌, ◌≤◌, Bool, true, false, ◌||◌, if◌then◌else◌, List, [], ◌∷◌, ◌++◌, length, map, take, filter, cond, Option, Some, None, refl, sym, ap, ◌∙◌, subst, nat_eq, arith, inl, inr}
 use Rattle.std.specs.Prelude.{◌-◌, ◌==◌, ◌&&◌, slice_get, count_by, option_map, IfSome}
 use Rattle.std.specs.List.{IsDistinct, AllByRecursion}
 use Rattle.std.proofs.Math.Bool.{or-false}
@@ -10,39 +10,39 @@ use Rattle.std.proofs.lemmas.List.Elements.{filter-append}
 use Rattle.std.proofs.lemmas.List.Sums.{count_by-le-length, sum_by-append, sum_by-cons}
 use Rattle.std.proofs.lemmas.Map.Keys.{IsDistinct-head, IsDistinct-tail}
 use Rattle.std.proofs.lemmas.Option.{none-some, same_Some}
-use Rattle.anim_names.specs.declared.property.Property.TheVariants.{Opacity, Transform}
-use Rattle.keyframe_model.specs.Models.{Spec, property_of, same_property}
+use Rattle.anim_names.specs.declared.property.Property.{Property}
+use Rattle.anim_names.specs.declared.per_property.PerProperty.{PerProperty}
+use Rattle.anim_names.specs.Properties.{at, every, for_each, is_property, put}
+use Rattle.anim_names.proofs.PropertyLemmas.{at-for_each, at-put, same-at}
+use Rattle.keyframe_model.specs.Models.{Spec, property_of}
 use Rattle.keyframe_effect.specs.declared.group.GroupRow.{GroupRow}
 use Rattle.keyframe_effect.specs.declared.state.RunState.{RunState}
 use Rattle.keyframe_effect.specs.Groups.{CanMove, moved, one_if}
 use Rattle.keyframe_effect.specs.Rule.{animates}
 use Rattle.keyframe_effect.specs.States as effect
-use Rattle.tree_commit.specs.declared.runs.mark.Mark.{Mark}
-use Rattle.tree_commit.specs.Follows.{IsAmong}
-use Rattle.tree_commit.specs.Marks.{is_running, model_of}
+use Rattle.run_rules.specs.declared.mark.Mark.{Mark}
+use Rattle.run_rules.specs.declared.mark.Mark.TheVariants.{OfModel}
+use Rattle.run_rules.specs.declared.mark.ModelMark.{ModelMark}
+use Rattle.anim_names.specs.Lists.{IsAmong}
+use Rattle.run_rules.specs.Marks.{is_unfinished}
 use Rattle.host_tables.specs.Groups.{group_row_of, is_waiting, joined_row, row_of_members}
 use Rattle.host_tables.specs.States.{FinishesStarted, state_of}
-use Rattle.host_tables.proofs.ShapeLemmas.{filter-fewer}
+use Rattle.host_tables.proofs.CommitGroupsLemmas.{filter-fewer}
 use Rattle.host_tables.proofs.StateLemmas.{one_any, state-other, state-runs, state-waits}
+use Rattle.std.proofs.Math.Nat.{add-zero}
 
 -- ---- counts
 
-count-cons : (p : Spec → Bool) (x : Spec) (xs : List Spec) → count_by p (x ∷ xs) ≡ one_if (p x) + count_by p xs
+pub count-cons : (p : Spec → Bool) (x : Spec) (xs : List Spec) → count_by p (x ∷ xs) ≡ one_if (p x) + count_by p xs
 count-cons p x xs = sum_by-cons (λ (m : Spec). one_if (p m)) x xs
 
 count-last : (p : Spec → Bool) (xs : List Spec) (x : Spec) → count_by p (xs ++ x ∷ []) ≡ count_by p xs + one_if (p x)
 count-last p xs x =
     sum_by-append (λ (m : Spec). one_if (p m)) xs (x ∷ [])
-    ∙ ap (λ (n : ℕ). count_by p xs + n) (count-cons p x [] ∙ plus-none (one_if (p x)))
-  where
-    plus-none : (n : ℕ) → n + 0 ≡ n
-    plus-none n = omega arith
+    ∙ ap (λ (n : ℕ). count_by p xs + n) (count-cons p x [] ∙ add-zero (one_if (p x)))
 
 count-one : (p : Spec → Bool) (x : Spec) → count_by p (x ∷ []) ≡ one_if (p x)
-count-one p x = count-cons p x [] ∙ plus-none (one_if (p x))
-  where
-    plus-none : (n : ℕ) → n + 0 ≡ n
-    plus-none n = omega arith
+count-one p x = count-cons p x [] ∙ add-zero (one_if (p x))
 
 -- models of other ids count alike
 count-same : (keep p q : Spec → Bool) (id : ℕ) → ((x : Spec) → x.id ≢ id → q x ≡ p x)
@@ -151,8 +151,8 @@ count-few keep p models =
 row-moves : (before after : RunState) (old new : List Mark) (group : ℕ) (members : List Spec)
     → count_by (λ model. is_waiting new model.id) members + one_if (effect.is_waiting before)
     ≡ count_by (λ model. is_waiting old model.id) members + one_if (effect.is_waiting after)
-    → count_by (λ model. is_running new model.id) members + one_if (effect.is_unfinished before)
-    ≡ count_by (λ model. is_running old model.id) members + one_if (effect.is_unfinished after)
+    → count_by (λ model. is_unfinished new model.id) members + one_if (effect.is_unfinished before)
+    ≡ count_by (λ model. is_unfinished old model.id) members + one_if (effect.is_unfinished after)
     → row_of_members new group members ≡ option_map (moved before after) (row_of_members old group members)
 row-moves before after old new group [] waits runs = refl
 row-moves before after old new group (first ∷ mates) waits runs = λ i.
@@ -160,9 +160,8 @@ row-moves before after old new group (first ∷ mates) waits runs = λ i.
       group = group;
       element = first.element;
       waiting = cut (count_by (λ model. is_waiting new model.id) (first ∷ mates)) _ (one_if (effect.is_waiting before)) waits i;
-      unfinished = cut (count_by (λ model. is_running new model.id) (first ∷ mates)) _ (one_if (effect.is_unfinished before)) runs i;
-      opacity = animates Opacity (first ∷ mates);
-      transform = animates Transform (first ∷ mates);
+      unfinished = cut (count_by (λ model. is_unfinished new model.id) (first ∷ mates)) _ (one_if (effect.is_unfinished before)) runs i;
+      animates = for_each (λ property. animates property (first ∷ mates));
     })
   where
     cut : (n all more : ℕ) → n + more ≡ all → n ≡ all - more
@@ -170,7 +169,7 @@ row-moves before after old new group (first ∷ mates) waits runs = λ i.
 
 row-stays : (old new : List Mark) (group : ℕ) (members : List Spec)
     → count_by (λ model. is_waiting new model.id) members ≡ count_by (λ model. is_waiting old model.id) members
-    → count_by (λ model. is_running new model.id) members ≡ count_by (λ model. is_running old model.id) members
+    → count_by (λ model. is_unfinished new model.id) members ≡ count_by (λ model. is_unfinished old model.id) members
     → row_of_members new group members ≡ row_of_members old group members
 row-stays old new group [] waits runs = refl
 row-stays old new group (first ∷ mates) waits runs = λ i.
@@ -179,27 +178,26 @@ row-stays old new group (first ∷ mates) waits runs = λ i.
       element = first.element;
       waiting = waits i;
       unfinished = runs i;
-      opacity = animates Opacity (first ∷ mates);
-      transform = animates Transform (first ∷ mates);
+      animates = for_each (λ property. animates property (first ∷ mates));
     })
 
-module _ (models : List Spec) (marks : List Mark) (mark : Mark) (model : Spec)
-    (differ : IsDistinct nat_eq (map (λ m. m.id) models)) (there : IsAmong model models) (of : model_of mark ≡ model.id)
-    (fits : FinishesStarted marks) (more : FinishesStarted (marks ++ mark ∷ []))
+module _ (models : List Spec) (marks : List Mark) (what : ModelMark) (model : Spec)
+    (differ : IsDistinct nat_eq (map (λ m. m.id) models)) (there : IsAmong model models)
+    (fits : FinishesStarted marks) (more : FinishesStarted (marks ++ OfModel model.id what ∷ []))
   where
     abbrev new : List Mark
-    new = marks ++ mark ∷ []
+    new = marks ++ OfModel model.id what ∷ []
 
     waits-other : (x : Spec) → x.id ≢ model.id → is_waiting new x.id ≡ is_waiting marks x.id
     waits-other x other =
         sym (state-waits new x.id more)
-        ∙ ap effect.is_waiting (state-other marks mark x.id (λ same. other (same ∙ of)))
+        ∙ ap effect.is_waiting (state-other marks model.id what x.id other)
         ∙ state-waits marks x.id fits
 
-    runs-other : (x : Spec) → x.id ≢ model.id → is_running new x.id ≡ is_running marks x.id
+    runs-other : (x : Spec) → x.id ≢ model.id → is_unfinished new x.id ≡ is_unfinished marks x.id
     runs-other x other =
         sym (state-runs new x.id)
-        ∙ ap effect.is_unfinished (state-other marks mark x.id (λ same. other (same ∙ of)))
+        ∙ ap effect.is_unfinished (state-other marks model.id what x.id other)
         ∙ state-runs marks x.id
 
     own : (model.group == model.group) ≡ true
@@ -216,14 +214,14 @@ module _ (models : List Spec) (marks : List Mark) (mark : Mark) (model : Spec)
         (ap (λ b. b && is_waiting new model.id) own ∙ sym (state-waits new model.id more) ∙ ap effect.is_waiting (sym is))
 
     runs-move : (before after : RunState) → before ≡ state_of marks model.id → after ≡ state_of new model.id
-        → count_by (λ m. is_running new m.id) (filter (λ m. model.group == m.group) models) + one_if (effect.is_unfinished before)
-        ≡ count_by (λ m. is_running marks m.id) (filter (λ m. model.group == m.group) models) + one_if (effect.is_unfinished after)
+        → count_by (λ m. is_unfinished new m.id) (filter (λ m. model.group == m.group) models) + one_if (effect.is_unfinished before)
+        ≡ count_by (λ m. is_unfinished marks m.id) (filter (λ m. model.group == m.group) models) + one_if (effect.is_unfinished after)
     runs-move before after was is =
-        ap (λ (b : Bool). count_by (λ (m : Spec). is_running new m.id) (filter (λ (m : Spec). model.group == m.group) models) + one_if b)
-        (ap effect.is_unfinished was ∙ state-runs marks model.id ∙ sym (ap (λ b. b && is_running marks model.id) own))
-        ∙ count-moves (λ (m : Spec). model.group == m.group) (λ (m : Spec). is_running marks m.id) (λ (m : Spec). is_running new m.id) model runs-other models differ there
-        ∙ ap (λ (b : Bool). count_by (λ (m : Spec). is_running marks m.id) (filter (λ (m : Spec). model.group == m.group) models) + one_if b)
-        (ap (λ b. b && is_running new model.id) own ∙ sym (state-runs new model.id) ∙ ap effect.is_unfinished (sym is))
+        ap (λ (b : Bool). count_by (λ (m : Spec). is_unfinished new m.id) (filter (λ (m : Spec). model.group == m.group) models) + one_if b)
+        (ap effect.is_unfinished was ∙ state-runs marks model.id ∙ sym (ap (λ b. b && is_unfinished marks model.id) own))
+        ∙ count-moves (λ (m : Spec). model.group == m.group) (λ (m : Spec). is_unfinished marks m.id) (λ (m : Spec). is_unfinished new m.id) model runs-other models differ there
+        ∙ ap (λ (b : Bool). count_by (λ (m : Spec). is_unfinished marks m.id) (filter (λ (m : Spec). model.group == m.group) models) + one_if b)
+        (ap (λ b. b && is_unfinished new model.id) own ∙ sym (state-runs new model.id) ∙ ap effect.is_unfinished (sym is))
 
     -- the row of the model's group
     pub group-here : (before after : RunState) → before ≡ state_of marks model.id → after ≡ state_of new model.id
@@ -240,10 +238,10 @@ module _ (models : List Spec) (marks : List Mark) (mark : Mark) (model : Spec)
         let keep = λ (m : Spec). group == m.group in
         let not_own : keep model ≡ false = elim (eqb_tells group model.group) [ inl t ↦ absurd (other t.1) | inr f ↦ f.0 ] in
         let w = count-moves keep (λ (m : Spec). is_waiting marks m.id) (λ (m : Spec). is_waiting new m.id) model waits-other models differ there in
-        let r = count-moves keep (λ (m : Spec). is_running marks m.id) (λ (m : Spec). is_running new m.id) model runs-other models differ there in
+        let r = count-moves keep (λ (m : Spec). is_unfinished marks m.id) (λ (m : Spec). is_unfinished new m.id) model runs-other models differ there in
         row-stays marks new group (filter keep models)
         (level (keep model) not_own (is_waiting marks model.id) (is_waiting new model.id) _ _ w)
-        (level (keep model) not_own (is_running marks model.id) (is_running new model.id) _ _ r)
+        (level (keep model) not_own (is_unfinished marks model.id) (is_unfinished new model.id) _ _ r)
       where
         level : (b : Bool) → b ≡ false → (p q : Bool) (m n : ℕ) → m + one_if (b && p) ≡ n + one_if (b && q) → m ≡ n
         level true is p q m n same = absurd cc
@@ -256,29 +254,29 @@ module _ (models : List Spec) (marks : List Mark) (mark : Mark) (model : Spec)
     group-can before after most was is few =
         let keep = λ (m : Spec). model.group == m.group in
         let waited = count-has keep (λ (m : Spec). is_waiting marks m.id) model models there in
-        let ran = count-has keep (λ (m : Spec). is_running marks m.id) model models there in
+        let ran = count-has keep (λ (m : Spec). is_unfinished marks m.id) model models there in
         let had_w : (keep model && is_waiting marks model.id) ≡ effect.is_waiting before =
         ap (λ b. b && is_waiting marks model.id) own ∙ sym (state-waits marks model.id fits) ∙ ap effect.is_waiting (sym was) in
-        let had_r : (keep model && is_running marks model.id) ≡ effect.is_unfinished before =
-        ap (λ b. b && is_running marks model.id) own ∙ sym (state-runs marks model.id) ∙ ap effect.is_unfinished (sym was) in
+        let had_r : (keep model && is_unfinished marks model.id) ≡ effect.is_unfinished before =
+        ap (λ b. b && is_unfinished marks model.id) own ∙ sym (state-runs marks model.id) ∙ ap effect.is_unfinished (sym was) in
         of_members (filter keep models)
         (subst (λ (b : Bool). one_if b ≤ count_by (λ (m : Spec). is_waiting marks m.id) (filter keep models)) had_w waited)
-        (subst (λ (b : Bool). one_if b ≤ count_by (λ (m : Spec). is_running marks m.id) (filter keep models)) had_r ran)
+        (subst (λ (b : Bool). one_if b ≤ count_by (λ (m : Spec). is_unfinished marks m.id) (filter keep models)) had_r ran)
         (fit (count_by (λ (m : Spec). is_waiting new m.id) (filter keep models)) (count_by (λ (m : Spec). is_waiting marks m.id) (filter keep models))
         (one_if (effect.is_waiting before)) (one_if (effect.is_waiting after)) (length models) (waits-move before after was is)
         (count-few keep (λ (m : Spec). is_waiting new m.id) models) few)
-        (fit (count_by (λ (m : Spec). is_running new m.id) (filter keep models)) (count_by (λ (m : Spec). is_running marks m.id) (filter keep models))
+        (fit (count_by (λ (m : Spec). is_unfinished new m.id) (filter keep models)) (count_by (λ (m : Spec). is_unfinished marks m.id) (filter keep models))
         (one_if (effect.is_unfinished before)) (one_if (effect.is_unfinished after)) (length models) (runs-move before after was is)
-        (count-few keep (λ (m : Spec). is_running new m.id) models) few)
+        (count-few keep (λ (m : Spec). is_unfinished new m.id) models) few)
       where
         fit : (n m was is all : ℕ) → n + was ≡ m + is → n ≤ all → all ≤ most → m + is ≤ most + was
         fit n m was is all same le lt = omega (arith, same, le, lt)
 
         of_members : (members : List Spec)
             → one_if (effect.is_waiting before) ≤ count_by (λ m. is_waiting marks m.id) members
-            → one_if (effect.is_unfinished before) ≤ count_by (λ m. is_running marks m.id) members
+            → one_if (effect.is_unfinished before) ≤ count_by (λ m. is_unfinished marks m.id) members
             → count_by (λ m. is_waiting marks m.id) members + one_if (effect.is_waiting after) ≤ most + one_if (effect.is_waiting before)
-            → count_by (λ m. is_running marks m.id) members + one_if (effect.is_unfinished after) ≤ most + one_if (effect.is_unfinished before)
+            → count_by (λ m. is_unfinished marks m.id) members + one_if (effect.is_unfinished after) ≤ most + one_if (effect.is_unfinished before)
             → IfSome (row_of_members marks model.group members) (CanMove most before after)
         of_members [] a b c d = tt
         of_members (first ∷ mates) a b c d = record { waited = a; ran = b; waiting = c; unfinished = d }
@@ -290,17 +288,52 @@ taken [] i x found = absurd (none-some x found)
 taken (y ∷ ys) zero x found = ap (λ z. z ∷ []) (same_Some y x found)
 taken (y ∷ ys) (suc i) x found = ap (λ zs. y ∷ zs) (taken ys i x found)
 
+-- a flag more
+flags-with : (flags : PerProperty Bool) (answers : Property → Bool) (kind : Property)
+    → ((property : Property) → answers property ≡ (at flags property || is_property kind property))
+    → for_each answers ≡ put flags kind true
+flags-with flags answers kind are =
+    same-at (for_each answers) (put flags kind true)
+    (λ property.
+    at-for_each answers property
+    ∙ are property
+    ∙ either (at flags property) (is_property kind property)
+    ∙ sym (at-put flags kind property true))
+  where
+    either : (a b : Bool) → (a || b) ≡ (if b then true else a)
+    either true true = refl
+    either true false = refl
+    either false true = refl
+    either false false = refl
+
+-- of one model
+flags-first : (model : Spec) → for_each (λ property. animates property (model ∷ [])) ≡ put (every false) (property_of model) true
+flags-first model =
+    flags-with (every false) (λ property. animates property (model ∷ [])) (property_of model)
+    (λ property.
+    or-false (is_property (property_of model) property)
+    ∙ ap (λ b. b || is_property (property_of model) property) (sym (at-for_each (λ (p : Property). false) property)))
+
+-- of one model more
+flags-next : (models : List Spec) (model : Spec)
+    → for_each (λ property. animates property (models ++ model ∷ []))
+    ≡ put (for_each (λ property. animates property models)) (property_of model) true
+flags-next models model =
+    flags-with (for_each (λ property. animates property models)) (λ property. animates property (models ++ model ∷ [])) (property_of model)
+    (λ property.
+    one_any (λ (m : Spec). is_property (property_of m) property) models model
+    ∙ ap (λ b. b || is_property (property_of model) property) (sym (at-for_each (λ (p : Property). animates p models) property)))
+
 row-joined : (marks : List Mark) (state : RunState) (model : Spec) (members : List Spec)
-    → effect.is_waiting state ≡ is_waiting marks model.id → effect.is_unfinished state ≡ is_running marks model.id
+    → effect.is_waiting state ≡ is_waiting marks model.id → effect.is_unfinished state ≡ is_unfinished marks model.id
     → row_of_members marks model.group (members ++ model ∷ []) ≡ Some (joined_row model state (row_of_members marks model.group members))
 row-joined marks state model [] waits runs = λ i.
     Some (record {
       group = model.group;
       element = model.element;
       waiting = (count-one (λ (m : Spec). is_waiting marks m.id) model ∙ ap one_if (sym waits)) i;
-      unfinished = (count-one (λ (m : Spec). is_running marks m.id) model ∙ ap one_if (sym runs)) i;
-      opacity = or-false (same_property Opacity (property_of model)) i;
-      transform = or-false (same_property Transform (property_of model)) i;
+      unfinished = (count-one (λ (m : Spec). is_unfinished marks m.id) model ∙ ap one_if (sym runs)) i;
+      animates = flags-first model i;
     })
 row-joined marks state model (first ∷ mates) waits runs = λ i.
     Some (record {
@@ -310,10 +343,9 @@ row-joined marks state model (first ∷ mates) waits runs = λ i.
           (count-last (λ (m : Spec). is_waiting marks m.id) (first ∷ mates) model
           ∙ ap (λ (b : Bool). count_by (λ (m : Spec). is_waiting marks m.id) (first ∷ mates) + one_if b) (sym waits)) i;
       unfinished =
-          (count-last (λ (m : Spec). is_running marks m.id) (first ∷ mates) model
-          ∙ ap (λ (b : Bool). count_by (λ (m : Spec). is_running marks m.id) (first ∷ mates) + one_if b) (sym runs)) i;
-      opacity = one_any (λ (m : Spec). same_property Opacity (property_of m)) (first ∷ mates) model i;
-      transform = one_any (λ (m : Spec). same_property Transform (property_of m)) (first ∷ mates) model i;
+          (count-last (λ (m : Spec). is_unfinished marks m.id) (first ∷ mates) model
+          ∙ ap (λ (b : Bool). count_by (λ (m : Spec). is_unfinished marks m.id) (first ∷ mates) + one_if b) (sym runs)) i;
+      animates = flags-next (first ∷ mates) model i;
     })
 
 module _ (models : List Spec) (i : ℕ) (model : Spec) (found : slice_get models i ≡ Some model) (marks : List Mark) where

@@ -4,7 +4,7 @@ pub mod LoopLemmas
 pub mod RowLemmas
 pub mod StateLemmas
 pub mod AmongLemmas
-pub mod ShapeLemmas
+pub mod CommitGroupsLemmas
 pub mod ElementLemmas
 pub mod GroupLemmas
 pub mod MarkedLemmas

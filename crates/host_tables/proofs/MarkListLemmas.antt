@@ -1,8 +1,8 @@
 -- The news, as a mark comes.
-use Rattle.std.proofs.Common.{◌≡◌, ℕ, zero, suc, ◌≤◌, List, [], ◌∷◌, ◌++◌, length, map, take, drop, ap, ◌∙◌}
+use Rattle.std.proofs.Common.{◌≡◌, ℕ, ◌≤◌, List, [], ◌∷◌, ◌++◌, length, map, drop, ap, ◌∙◌}
 use Rattle.std.proofs.lemmas.List.{map-append, drop-append-le}
-use Rattle.tree_commit.specs.declared.runs.mark.Mark.{Mark}
-use Rattle.tree_commit.specs.Marks.{event_of}
+use Rattle.run_rules.specs.declared.mark.Mark.{Mark}
+use Rattle.run_rules.specs.Marks.{event_of}
 use Rattle.host_tables.specs.MarkLists.{StartIsWithin, StartsAreWithin, events_behind}
 
 -- a mark comes behind the others, and its event behind the other news
@@ -15,10 +15,5 @@ behind cleared marks mark within =
 pub within-push : (marks : List Mark) (mark : Mark) → StartsAreWithin marks → StartIsWithin mark → StartsAreWithin (marks ++ mark ∷ [])
 within-push [] mark within one = (one, tt)
 within-push (first ∷ marks) mark within one = (within.0, within-push marks mark within.1 one)
-
-pub within_take : (count : ℕ) (marks : List Mark) → StartsAreWithin marks → StartsAreWithin (take count marks)
-within_take zero marks within = tt
-within_take (suc count) [] within = tt
-within_take (suc count) (mark ∷ marks) within = (within.0, within_take count marks within.1)
 
 pub ruleset pushes = (behind, within-push)

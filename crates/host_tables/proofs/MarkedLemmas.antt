@@ -2,8 +2,8 @@
 use Rattle.std.proofs.Common.{◌≡◌, ◌≢◌, ◌∙◌, ℕ, Bool, true, false, Option, Some, None, refl, sym, ap, inl, inr}
 use Rattle.std.specs.Prelude.{option_map, option_and_then, if◌then◌else◌}
 use Rattle.std.proofs.lemmas.Bool.Decides.{eqb_tells}
-use Rattle.tree_commit.specs.declared.runs.mark.Mark.{Mark}
-use Rattle.tree_commit.specs.declared.runs.mark.Mark.TheVariants.{Started, Finished, Aborted}
+use Rattle.run_rules.specs.declared.mark.ModelMark.{ModelMark}
+use Rattle.run_rules.specs.declared.mark.ModelMark.TheVariants.{Started, Finished, Aborted}
 use Rattle.keyframe_effect.specs.declared.state.RunState.{RunState}
 use Rattle.keyframe_effect.specs.declared.state.RunState.TheVariants as state
 use Rattle.keyframe_effect.specs.States.{after_done, is_ended, is_unfinished, is_waiting}
@@ -13,76 +13,76 @@ use Rattle.host_tables.specs.States.{advanced, as_marked, is_found_over, shown_a
 
 -- ---- one state
 
-pub marked-advanced : (s : RunState) (mark : Mark) (order : ℕ) → as_marked (advanced s mark order) ≡ advanced (as_marked s) mark order
-marked-advanced state.Waiting (Started model group element property at start) order = refl
-marked-advanced (state.Running begun place) (Started model group element property at start) order = refl
-marked-advanced (state.Done begun place) (Started model group element property at start) order = refl
-marked-advanced (state.Finished begun place) (Started model group element property at start) order = refl
-marked-advanced state.Aborted (Started model group element property at start) order = refl
-marked-advanced state.Waiting (Finished model at) order = refl
-marked-advanced (state.Running begun place) (Finished model at) order = refl
-marked-advanced (state.Done begun place) (Finished model at) order = refl
-marked-advanced (state.Finished begun place) (Finished model at) order = refl
-marked-advanced state.Aborted (Finished model at) order = refl
-marked-advanced s (Aborted model commit) order = refl
+pub marked-advanced : (s : RunState) (what : ModelMark) (order : ℕ) → as_marked (advanced s what order) ≡ advanced (as_marked s) what order
+marked-advanced state.Waiting (Started begun) order = refl
+marked-advanced (state.Running old_start old_order) (Started begun) order = refl
+marked-advanced (state.Done old_start old_order) (Started begun) order = refl
+marked-advanced (state.Finished old_start old_order) (Started begun) order = refl
+marked-advanced state.Aborted (Started begun) order = refl
+marked-advanced state.Waiting (Finished at) order = refl
+marked-advanced (state.Running old_start old_order) (Finished at) order = refl
+marked-advanced (state.Done old_start old_order) (Finished at) order = refl
+marked-advanced (state.Finished old_start old_order) (Finished at) order = refl
+marked-advanced state.Aborted (Finished at) order = refl
+marked-advanced s (Aborted commit) order = refl
 
 marked-done : (s : RunState) → as_marked (after_done s) ≡ as_marked s
 marked-done state.Waiting = refl
-marked-done (state.Running begun place) = refl
-marked-done (state.Done begun place) = refl
-marked-done (state.Finished begun place) = refl
+marked-done (state.Running old_start old_order) = refl
+marked-done (state.Done old_start old_order) = refl
+marked-done (state.Finished old_start old_order) = refl
 marked-done state.Aborted = refl
 
 -- what a state says is what it says as the marks know it
 pub marked-runs : (s : RunState) → is_unfinished s ≡ is_unfinished (as_marked s)
 marked-runs state.Waiting = refl
-marked-runs (state.Running begun place) = refl
-marked-runs (state.Done begun place) = refl
-marked-runs (state.Finished begun place) = refl
+marked-runs (state.Running old_start old_order) = refl
+marked-runs (state.Done old_start old_order) = refl
+marked-runs (state.Finished old_start old_order) = refl
 marked-runs state.Aborted = refl
 
 pub marked-waits : (s : RunState) → is_waiting s ≡ is_waiting (as_marked s)
 marked-waits state.Waiting = refl
-marked-waits (state.Running begun place) = refl
-marked-waits (state.Done begun place) = refl
-marked-waits (state.Finished begun place) = refl
+marked-waits (state.Running old_start old_order) = refl
+marked-waits (state.Done old_start old_order) = refl
+marked-waits (state.Finished old_start old_order) = refl
 marked-waits state.Aborted = refl
 
 pub marked-ended : (s : RunState) → is_ended s ≡ is_ended (as_marked s)
 marked-ended state.Waiting = refl
-marked-ended (state.Running begun place) = refl
-marked-ended (state.Done begun place) = refl
-marked-ended (state.Finished begun place) = refl
+marked-ended (state.Running old_start old_order) = refl
+marked-ended (state.Done old_start old_order) = refl
+marked-ended (state.Finished old_start old_order) = refl
 marked-ended state.Aborted = refl
 
 pub marked-shown : (s : RunState) → shown_at s ≡ shown_at (as_marked s)
 marked-shown state.Waiting = refl
-marked-shown (state.Running begun place) = refl
-marked-shown (state.Done begun place) = refl
-marked-shown (state.Finished begun place) = refl
+marked-shown (state.Running old_start old_order) = refl
+marked-shown (state.Done old_start old_order) = refl
+marked-shown (state.Finished old_start old_order) = refl
 marked-shown state.Aborted = refl
 
 -- a model that was found over runs
 pub over-runs : (s : RunState) → is_found_over s ≡ true → is_unfinished s ≡ true
 over-runs state.Waiting is = cc
-over-runs (state.Running begun place) is = refl
-over-runs (state.Done begun place) is = refl
-over-runs (state.Finished begun place) is = cc
+over-runs (state.Running old_start old_order) is = refl
+over-runs (state.Done old_start old_order) is = refl
+over-runs (state.Finished old_start old_order) is = cc
 over-runs state.Aborted is = cc
 
--- a mark finds nothing over
-over-advanced : (s : RunState) (mark : Mark) (order : ℕ) → is_found_over (advanced s mark order) ≡ true → is_found_over s ≡ true
-over-advanced state.Waiting (Started model group element property at start) order is = is
-over-advanced (state.Running begun place) (Started model group element property at start) order is = is
-over-advanced (state.Done begun place) (Started model group element property at start) order is = refl
-over-advanced (state.Finished begun place) (Started model group element property at start) order is = is
-over-advanced state.Aborted (Started model group element property at start) order is = is
-over-advanced state.Waiting (Finished model at) order is = is
-over-advanced (state.Running begun place) (Finished model at) order is = is
-over-advanced (state.Done begun place) (Finished model at) order is = refl
-over-advanced (state.Finished begun place) (Finished model at) order is = is
-over-advanced state.Aborted (Finished model at) order is = is
-over-advanced s (Aborted model commit) order is = cc
+-- what becomes of a model by a mark finds nothing over
+over-advanced : (s : RunState) (what : ModelMark) (order : ℕ) → is_found_over (advanced s what order) ≡ true → is_found_over s ≡ true
+over-advanced state.Waiting (Started begun) order is = is
+over-advanced (state.Running old_start old_order) (Started begun) order is = is
+over-advanced (state.Done old_start old_order) (Started begun) order is = refl
+over-advanced (state.Finished old_start old_order) (Started begun) order is = is
+over-advanced state.Aborted (Started begun) order is = is
+over-advanced state.Waiting (Finished at) order is = is
+over-advanced (state.Running old_start old_order) (Finished at) order is = is
+over-advanced (state.Done old_start old_order) (Finished at) order is = refl
+over-advanced (state.Finished old_start old_order) (Finished at) order is = is
+over-advanced state.Aborted (Finished at) order is = is
+over-advanced s (Aborted commit) order is = cc
 
 -- ---- one row, as the marks know it
 
@@ -90,10 +90,10 @@ pub state-marked : (row : Option ModelRow) → as_marked (state_in row) ≡ stat
 state-marked None = refl
 state-marked (Some row) = refl
 
-pub row-marked-advanced : (row : Option ModelRow) (mark : Mark) (order : ℕ)
-    → option_map marked_row (option_map (advanced_row mark order) row) ≡ option_map (advanced_row mark order) (option_map marked_row row)
-row-marked-advanced None mark order = refl
-row-marked-advanced (Some row) mark order = ap (λ (s : RunState). Some (record row { state = s })) (marked-advanced row.state mark order)
+pub row-marked-advanced : (row : Option ModelRow) (what : ModelMark) (order : ℕ)
+    → option_map marked_row (option_map (advanced_row what order) row) ≡ option_map (advanced_row what order) (option_map marked_row row)
+row-marked-advanced None what order = refl
+row-marked-advanced (Some row) what order = ap (λ (s : RunState). Some (record row { state = s })) (marked-advanced row.state what order)
 
 pub row-marked-done : (row : Option ModelRow) → option_map marked_row (option_map done_row row) ≡ option_map marked_row row
 row-marked-done None = refl
@@ -118,9 +118,9 @@ row-marked-entered (Some row) = refl
 
 -- ---- one row, and whether it says that its model was found over
 
-pub row-over-advanced : (row : Option ModelRow) (mark : Mark) (order : ℕ) → says_over (option_map (advanced_row mark order) row) ≡ true → says_over row ≡ true
-row-over-advanced None mark order is = is
-row-over-advanced (Some row) mark order is = over-advanced row.state mark order is
+pub row-over-advanced : (row : Option ModelRow) (what : ModelMark) (order : ℕ) → says_over (option_map (advanced_row what order) row) ≡ true → says_over row ≡ true
+row-over-advanced None what order is = is
+row-over-advanced (Some row) what order is = over-advanced row.state what order is
 
 pub row-over-joined : (id : ℕ) (row : Option ModelRow) → says_over (Some (joined id row)) ≡ true → says_over row ≡ true
 row-over-joined id None is = is

@@ -1,36 +1,33 @@
 -- How far models have come: what one more mark changes, and what a state says.
-use Rattle.std.proofs.Common.{◌≡◌, ◌≢◌, ℕ, ◌+◌, ◌≤◌, Bool, true, false, not, ◌||◌, List, [], ◌∷◌, ◌++◌, length, Option, Some, None, refl, sym, ap, ◌∙◌, arith, inl, inr}
-use Rattle.std.specs.Prelude.{ℤ, is_some, if◌then◌else◌, ◌==◌, ◌&&◌}
+use Rattle.std.proofs.Common.{◌≡◌, ◌≢◌, ℕ, ◌+◌, ◌≤◌, Bool, true, false, not, ◌||◌, List, [], ◌∷◌, ◌++◌, length, Option, Some, None, refl, sym, ap, ◌∙◌, arith}
+use Rattle.std.specs.Prelude.{ℤ, is_some, unsigned_abs, IfSome, if◌then◌else◌, ◌==◌, ◌&&◌}
 use Rattle.std.specs.List.{list_any}
+use Rattle.std.proofs.lemmas.Bool.{and_from, and_parts, eq-eqb, ne_eqb, or_left, or_parts, true≢false}
+use Rattle.std.proofs.lemmas.List.{append-nil}
 use Rattle.std.proofs.lemmas.List.Folds.{list_any-append}
 use Rattle.std.proofs.Math.Bool.{or-false}
-use Rattle.std.proofs.lemmas.Bool.Decides.{eqb_tells}
-use Rattle.anim_names.specs.declared.property.Property.{Property}
-use Rattle.std.proofs.lemmas.Bool.{eq-eqb}
-use Rattle.tree_commit.specs.declared.runs.mark.Mark.{Mark}
-use Rattle.tree_commit.specs.declared.runs.mark.Mark.TheVariants.{Started, Finished, Aborted}
-use Rattle.tree_commit.specs.declared.runs.shown.Shown.{Shown}
-use Rattle.keyframe_model.specs.Models.{Spec}
-use Rattle.tree_commit.specs.Trees.{TreeLists}
-use Rattle.tree_commit.specs.Follows.{Follows, IsAmong, has_mark}
-use Rattle.tree_commit.specs.Frames.{shown_by}
-use Rattle.tree_commit.specs.Marks.{aborts, ends, is_aborted, is_ended, is_running, is_started, model_of, start_from, start_of, starts}
-use Rattle.tree_commit.proofs.Among.{among-has}
-use Rattle.keyframe_effect.specs.declared.state.RunState.TheVariants as state
-use Rattle.std.specs.Prelude.{unsigned_abs, IfSome}
+use Rattle.anim_names.specs.Lists.{IsAmong}
 use Rattle.anim_timeline.specs.declared.TheConstants.{LAST_TIME}
-use Rattle.std.proofs.lemmas.List.{append-nil}
-use Rattle.host_tables.specs.MarkLists.{StartsAreWithin, mark_if, start_in}
-use Rattle.host_tables.specs.Groups.{is_waiting}
-use Rattle.host_tables.specs.States.{FinishesStarted, advanced, is_among, shown_at, state_from, state_of}
-use Rattle.keyframe_effect.specs.States.{is_unfinished}
+use Rattle.keyframe_model.specs.Models.{Spec}
+use Rattle.keyframe_effect.specs.declared.state.RunState.TheVariants as state
 use Rattle.keyframe_effect.specs.States as effect
+use Rattle.tree_commit.specs.declared.shown.Shown.{Shown}
+use Rattle.tree_commit.specs.Trees.{TreeLists}
+use Rattle.tree_commit.proofs.Among.{among-has, any-among, any-cases, any-none}
+use Rattle.run_rules.specs.declared.mark.Mark.{Mark}
+use Rattle.run_rules.specs.declared.mark.Mark.TheVariants.{OfModel}
+use Rattle.run_rules.specs.declared.mark.ModelMark.{ModelMark}
+use Rattle.run_rules.specs.declared.mark.ModelMark.TheVariants.{Started, Finished, Aborted}
+use Rattle.run_rules.specs.Follows.{Follows, has_mark}
+use Rattle.run_rules.specs.Frames.{shown_by}
+use Rattle.run_rules.specs.Marks.{aborts, ends, is_abort, is_aborted, is_about, is_end, is_ended, is_start, is_started, is_unfinished, says, start_from, start_of, start_or, starts}
+use Rattle.run_rules.proofs.MarkLemmas.{abort-is_end, says-model, says-other, says-own, says-what}
+use Rattle.host_tables.specs.Groups.{is_waiting}
+use Rattle.host_tables.specs.MarkLists.{StartsAreWithin, begun_start, mark_if, start_in}
+use Rattle.host_tables.specs.States.{FinishesStarted, advanced, is_among, shown_at, state_from, state_of}
 use Rattle.host_tables.proofs.MarkLemmas.{start-found, start-later, start_within}
 
 -- ---- marks with one more
-
-apart : (id other : ℕ) → id ≢ other → (id == other) ≡ false
-apart id other differ = elim (eqb_tells id other) [ inl t ↦ absurd (differ t.1) | inr f ↦ f.0 ]
 
 pub one_any : {A : Type 0} (p : A → Bool) (xs : List A) (x : A) → list_any p (xs ++ x ∷ []) ≡ (list_any p xs || p x)
 one_any p xs x = list_any-append p xs (x ∷ []) ∙ ap (λ b. list_any p xs || b) (or-false (p x))
@@ -84,47 +81,36 @@ start-kept marks mark id shown is =
 
 started-some : (index : ℕ) (marks : List Mark) (id : ℕ) → is_some (start_from index marks id) ≡ is_started marks id
 started-some index [] id = refl
-started-some index (Started model group element property at start ∷ marks) id = test (started-some (index + 1) marks id) (id == model)
+started-some index (OfModel model what ∷ marks) id = by what (id == model) (started-some (index + 1) marks id)
   where
-    test : is_some (start_from (index + 1) marks id) ≡ is_started marks id → (b : Bool)
-        → is_some (if b then Some (record { start = start; order = index }) else start_from (index + 1) marks id)
-        ≡ (b || is_started marks id)
-    test rest true = refl
-    test rest false = rest
-started-some index (Finished model at ∷ marks) id = started-some (index + 1) marks id
-started-some index (Aborted model commit ∷ marks) id = started-some (index + 1) marks id
+    by : (what : ModelMark) (is_it : Bool) → is_some (start_from (index + 1) marks id) ≡ is_started marks id
+        → is_some (start_or what is_it index (start_from (index + 1) marks id)) ≡ ((is_start what && is_it) || is_started marks id)
+    by (Started begun) true rest = refl
+    by (Started begun) false rest = rest
+    by (Finished at) is_it rest = rest
+    by (Aborted commit) is_it rest = rest
 
 -- a start is recorded exactly where the model started
 pub start_of-started : (marks : List Mark) (id : ℕ) → is_some (start_of marks id) ≡ is_started marks id
 start_of-started marks id = started-some 0 marks id
 
-started-next : (aborted ended : Bool) (before : Option Shown) (mark : Mark) (start : ℤ) (order : ℕ)
+-- what is read of a model after what became of it, by what was read of it before
+state-next : (aborted ended : Bool) (before : Option Shown) (what : ModelMark) (order : ℕ)
     → (ended ≡ true → aborted ≡ false → is_some before ≡ true)
-    → (model group element : ℕ) (property : Property) (at : ℕ)
-    → state_from aborted ended (or_start before (Some start) order)
-    ≡ advanced (state_from aborted ended before) (Started model group element property at start) order
-started-next true ended before mark start order fits model group element property at = refl
-started-next false true (Some shown) mark start order fits model group element property at = refl
-started-next false true None mark start order fits model group element property at = cc (fits refl refl)
-started-next false false (Some shown) mark start order fits model group element property at = refl
-started-next false false None mark start order fits model group element property at = refl
-
-finished-next : (aborted ended : Bool) (before : Option Shown) (model at order : ℕ)
-    → state_from aborted (ended || true) (or_start before None order) ≡ advanced (state_from aborted ended before) (Finished model at) order
-finished-next true ended before model at order = refl
-finished-next false true None model at order = refl
-finished-next false true (Some shown) model at order = refl
-finished-next false false None model at order = refl
-finished-next false false (Some shown) model at order = refl
-
-aborted-next : (aborted ended : Bool) (before : Option Shown) (model commit order : ℕ)
-    → state_from (aborted || true) (ended || true) (or_start before None order) ≡ advanced (state_from aborted ended before) (Aborted model commit) order
-aborted-next true ended None model commit order = refl
-aborted-next true ended (Some shown) model commit order = refl
-aborted-next false true None model commit order = refl
-aborted-next false true (Some shown) model commit order = refl
-aborted-next false false None model commit order = refl
-aborted-next false false (Some shown) model commit order = refl
+    → state_from (aborted || is_abort what) (ended || is_end what) (or_start before (begun_start what) order)
+    ≡ advanced (state_from aborted ended before) what order
+state-next true ended before (Started begun) order fits = refl
+state-next false true (Some shown) (Started begun) order fits = refl
+state-next false true None (Started begun) order fits = cc (fits refl refl)
+state-next false false (Some shown) (Started begun) order fits = refl
+state-next false false None (Started begun) order fits = refl
+state-next true ended before (Finished at) order fits = refl
+state-next false true None (Finished at) order fits = refl
+state-next false true (Some shown) (Finished at) order fits = refl
+state-next false false None (Finished at) order fits = refl
+state-next false false (Some shown) (Finished at) order fits = refl
+state-next true ended before (Aborted commit) order fits = refl
+state-next false ended before (Aborted commit) order fits = refl
 
 kept : (before : Option Shown) (order : ℕ) → or_start before None order ≡ before
 kept None order = refl
@@ -153,60 +139,46 @@ same-parts marks a e o id no_abort no_end no_start =
     ∙ ap (λ (b : Bool). state_from (is_aborted marks id) b (or_start (start_of marks id) None (length marks))) (or-false (is_ended marks id))
     ∙ ap (λ (s : Option Shown). state_from (is_aborted marks id) (is_ended marks id) s) (kept (start_of marks id) (length marks))
 
-pub state-other : (marks : List Mark) (mark : Mark) (id : ℕ) → id ≢ model_of mark → state_of (marks ++ mark ∷ []) id ≡ state_of marks id
-state-other marks (Started model group element property at start) id other =
-    let differ : (id == model) ≡ false = apart id model other in
-    parts marks (Started model group element property at start) id
-    ∙ same-parts marks false false (if id == model then Some start else None) id refl refl (ap (λ b. if b then Some start else None) differ)
-state-other marks (Finished model at) id other =
-    let differ : (id == model) ≡ false = apart id model other in
-    parts marks (Finished model at) id ∙ same-parts marks false (id == model) None id refl differ refl
-state-other marks (Aborted model commit) id other =
-    let differ : (id == model) ≡ false = apart id model other in
-    parts marks (Aborted model commit) id ∙ same-parts marks (id == model) (id == model) None id differ differ refl
+pub state-other : (marks : List Mark) (model : ℕ) (what : ModelMark) (id : ℕ) → id ≢ model
+    → state_of (marks ++ OfModel model what ∷ []) id ≡ state_of marks id
+state-other marks model what id other =
+    let differ : (id == model) ≡ false = ne_eqb id model other in
+    parts marks (OfModel model what) id
+    ∙ same-parts marks (aborts id (OfModel model what)) (ends id (OfModel model what)) (start_in id (OfModel model what)) id
+    (says-other is_abort id model what differ) (says-other is_end id model what differ)
+    (ap (λ b. if b then begun_start what else None) differ)
 
 -- a mark about the model advances it
-pub state-here : (marks : List Mark) (mark : Mark) → FinishesStarted marks
-    → state_of (marks ++ mark ∷ []) (model_of mark) ≡ advanced (state_of marks (model_of mark)) mark (length marks)
+pub state-here : (marks : List Mark) (model : ℕ) (what : ModelMark) → FinishesStarted marks
+    → state_of (marks ++ OfModel model what ∷ []) model ≡ advanced (state_of marks model) what (length marks)
 unfolding state_of
-state-here marks (Started id group element property at start) fits =
-    let fact : (id == id) ≡ true = eq-eqb id id refl in
-    parts marks (Started id group element property at start) id
-    ∙ ap (λ (b : Bool). state_from (is_aborted marks id || false) (is_ended marks id || false) (or_start (start_of marks id) (if b then Some start else None) (length marks))) fact
-    ∙ ap (λ (b : Bool). state_from b (is_ended marks id || false) (or_start (start_of marks id) (Some start) (length marks))) (or-false (is_aborted marks id))
-    ∙ ap (λ (b : Bool). state_from (is_aborted marks id) b (or_start (start_of marks id) (Some start) (length marks))) (or-false (is_ended marks id))
-    ∙ started-next (is_aborted marks id) (is_ended marks id) (start_of marks id) (Started id group element property at start) start (length marks)
-    (λ e a. start_of-started marks id ∙ fits id e a) id group element property at
-state-here marks (Finished id at) fits =
-    let fact : (id == id) ≡ true = eq-eqb id id refl in
-    parts marks (Finished id at) id
-    ∙ ap (λ (b : Bool). state_from (is_aborted marks id || false) (is_ended marks id || b) (or_start (start_of marks id) None (length marks))) fact
-    ∙ ap (λ (b : Bool). state_from b (is_ended marks id || true) (or_start (start_of marks id) None (length marks))) (or-false (is_aborted marks id))
-    ∙ finished-next (is_aborted marks id) (is_ended marks id) (start_of marks id) id at (length marks)
-state-here marks (Aborted id commit) fits =
-    let fact : (id == id) ≡ true = eq-eqb id id refl in
-    parts marks (Aborted id commit) id
-    ∙ ap (λ (b : Bool). state_from (is_aborted marks id || b) (is_ended marks id || b) (or_start (start_of marks id) None (length marks))) fact
-    ∙ aborted-next (is_aborted marks id) (is_ended marks id) (start_of marks id) id commit (length marks)
+state-here marks model what fits =
+    parts marks (OfModel model what) model
+    ∙ (λ i.
+    state_from (is_aborted marks model || says-own is_abort model what i) (is_ended marks model || says-own is_end model what i)
+    (or_start (start_of marks model) (if eq-eqb model model refl i then begun_start what else None) (length marks)))
+    ∙ state-next (is_aborted marks model) (is_ended marks model) (start_of marks model) what (length marks)
+    (λ e a. start_of-started marks model ∙ fits model e a)
 
 -- ---- what a state says
 
+-- a mark that passes one test of a model passes another
+any-so : (test other : Mark → Bool) (marks : List Mark) → ((mark : Mark) → test mark ≡ true → other mark ≡ true)
+    → list_any test marks ≡ true → list_any other marks ≡ true
+any-so test other marks so is =
+    let found = any-cases test marks is in
+    any-among other found.0 marks found.1 (so found.0 found.2)
+
 abort-ends : (marks : List Mark) (id : ℕ) → is_aborted marks id ≡ true → is_ended marks id ≡ true
-abort-ends [] id = λ fact. cc
-abort-ends (Started model group element property at start ∷ marks) id = abort-ends marks id
-abort-ends (Finished model at ∷ marks) id = or-second (id == model) (is_aborted marks id) (is_ended marks id) (abort-ends marks id)
+abort-ends marks id = any-so (aborts id) (ends id) marks so
   where
-    or-second : (b c d : Bool) → (c ≡ true → d ≡ true) → c ≡ true → (b || d) ≡ true
-    or-second true c d so fact = refl
-    or-second false c d so fact = so fact
-abort-ends (Aborted model commit ∷ marks) id = or-both (id == model) (is_aborted marks id) (is_ended marks id) (abort-ends marks id)
-  where
-    or-both : (b c d : Bool) → (c ≡ true → d ≡ true) → (b || c) ≡ true → (b || d) ≡ true
-    or-both true c d so fact = refl
-    or-both false c d so fact = so fact
+    so : (mark : Mark) → aborts id mark ≡ true → ends id mark ≡ true
+    so (OfModel model what) is =
+        let its = and_parts (is_abort what) (id == model) is in
+        and_from (is_end what) (id == model) (abort-is_end what its.0) its.1
 
 running-parts : (aborted ended : Bool) (start : Option Shown) → (aborted ≡ true → ended ≡ true)
-    → is_unfinished (state_from aborted ended start) ≡ (is_some start && not ended)
+    → effect.is_unfinished (state_from aborted ended start) ≡ (is_some start && not ended)
 running-parts true true None both = refl
 running-parts true true (Some shown) both = refl
 running-parts true false start both = cc (both refl)
@@ -215,7 +187,7 @@ running-parts false true (Some shown) both = refl
 running-parts false false None both = refl
 running-parts false false (Some shown) both = refl
 
-pub state-runs : (marks : List Mark) (id : ℕ) → is_unfinished (state_of marks id) ≡ is_running marks id
+pub state-runs : (marks : List Mark) (id : ℕ) → effect.is_unfinished (state_of marks id) ≡ is_unfinished marks id
 unfolding state_of
 state-runs marks id =
     running-parts (is_aborted marks id) (is_ended marks id) (start_of marks id) (abort-ends marks id)
@@ -268,37 +240,24 @@ state-shown marks id = shown-parts (is_aborted marks id) (is_ended marks id) (st
 
 -- ---- what finished had started
 
-or-first : (a b : Bool) → a ≡ true → (a || b) ≡ true
-or-first true b is = refl
-or-first false b is = cc
-
-or-neither : (a b : Bool) → (a || b) ≡ false → (a ≡ false) × (b ≡ false)
-or-neither true b is = cc
-or-neither false b is = (refl, is)
-
-pub finishes-started : (marks : List Mark) (mark : Mark) → FinishesStarted marks
-    → (ends (model_of mark) mark ≡ true → aborts (model_of mark) mark ≡ false → is_started marks (model_of mark) ≡ true)
-    → FinishesStarted (marks ++ mark ∷ [])
-finishes-started marks (Started model group element property at start) fits had = λ id ended alive.
-    let e : is_ended marks id ≡ true = sym (ended-more marks (Started model group element property at start) id ∙ or-false (is_ended marks id)) ∙ ended in
-    let a : is_aborted marks id ≡ false = sym (aborted-more marks (Started model group element property at start) id ∙ or-false (is_aborted marks id)) ∙ alive in
-    started-more marks (Started model group element property at start) id ∙ or-first (is_started marks id) (id == model) (fits id e a)
-finishes-started marks (Finished model at) fits had = λ id ended alive.
-    let e : (is_ended marks id || (id == model)) ≡ true = sym (ended-more marks (Finished model at) id) ∙ ended in
-    let a : is_aborted marks id ≡ false = sym (aborted-more marks (Finished model at) id ∙ or-false (is_aborted marks id)) ∙ alive in
-    started-more marks (Finished model at) id
-    ∙ or-false (is_started marks id)
-    ∙ elim (eqb_tells id model) [
-      | inl t ↦ ap (is_started marks) t.1 ∙ had (eq-eqb model model refl) refl
-      | inr f ↦ fits id (sym (ap (λ b. is_ended marks id || b) f.0 ∙ or-false (is_ended marks id)) ∙ e) a
-    ]
-finishes-started marks (Aborted model commit) fits had = λ id ended alive.
-    let e : (is_ended marks id || (id == model)) ≡ true = sym (ended-more marks (Aborted model commit) id) ∙ ended in
-    let a : (is_aborted marks id || (id == model)) ≡ false = sym (aborted-more marks (Aborted model commit) id) ∙ alive in
-    let none = or-neither (is_aborted marks id) (id == model) a in
-    started-more marks (Aborted model commit) id
-    ∙ or-false (is_started marks id)
-    ∙ fits id (sym (ap (λ b. is_ended marks id || b) none.1 ∙ or-false (is_ended marks id)) ∙ e) none.0
+pub finishes-started : (marks : List Mark) (model : ℕ) (what : ModelMark) → FinishesStarted marks
+    → (is_end what ≡ true → is_abort what ≡ false → is_started marks model ≡ true)
+    → FinishesStarted (marks ++ OfModel model what ∷ [])
+finishes-started marks model what fits had id ended alive =
+    let mark = OfModel model what in
+    let none = or_parts (is_aborted marks id) (aborts id mark) (sym (aborted-more marks mark id) ∙ alive) in
+    started-more marks mark id
+    ∙ or_left (is_started marks id) (starts id mark)
+    (by (is_ended marks id) refl (sym (ended-more marks mark id) ∙ ended) none.0 none.1)
+  where
+    by : (b : Bool) → is_ended marks id ≡ b → (b || ends id (OfModel model what)) ≡ true → is_aborted marks id ≡ false
+        → aborts id (OfModel model what) ≡ false → is_started marks id ≡ true
+    by true e now alive no_abort = fits id e alive
+    by false e now alive no_abort =
+        let same = says-model is_end id (OfModel model what) now in
+        ap (is_started marks) same
+        ∙ had (says-what is_end id model what now)
+        (sym (says-own is_abort model what) ∙ ap (λ (n : ℕ). aborts n (OfModel model what)) (sym same) ∙ no_abort)
 
 -- what is shown of a model is in range
 pub shown-within : (marks : List Mark) (id : ℕ) → StartsAreWithin marks → IfSome (shown_by marks id) (λ s. unsigned_abs s.start ≤ LAST_TIME)
@@ -308,54 +267,40 @@ shown-within marks id within = either (is_aborted marks id) (start_of marks id) 
     either true o in_range = tt
     either false o in_range = in_range
 
--- of a running model it is the start that was recorded
-pub running-shown : (marks : List Mark) (id : ℕ) → is_running marks id ≡ true → shown_by marks id ≡ start_of marks id
-running-shown marks id runs = alive (is_aborted marks id) (is_started marks id) (is_ended marks id) (abort-ends marks id) runs
-  where
-    alive : (a s e : Bool) → (a ≡ true → e ≡ true) → (s && not e) ≡ true → (if a then None else start_of marks id) ≡ start_of marks id
-    alive true true true ends runs = cc
-    alive true false true ends runs = cc
-    alive true s false ends runs = cc (ends refl)
-    alive false s e ends runs = refl
-
 -- a running model started
-pub running-started : (marks : List Mark) (id : ℕ) → is_running marks id ≡ true → is_started marks id ≡ true
-running-started marks id runs = left (is_started marks id) (not (is_ended marks id)) runs
-  where
-    left : (a b : Bool) → (a && b) ≡ true → a ≡ true
-    left true b is = refl
-    left false b is = cc
+pub running-started : (marks : List Mark) (id : ℕ) → is_unfinished marks id ≡ true → is_started marks id ≡ true
+running-started marks id runs = (and_parts (is_started marks id) (not (is_ended marks id)) runs).0
 
 -- what started stays started
 pub started-grows : (marks : List Mark) (mark : Mark) (id : ℕ) → is_started marks id ≡ true → is_started (marks ++ mark ∷ []) id ≡ true
-started-grows marks mark id is = started-more marks mark id ∙ or-first (is_started marks id) (starts id mark) is
+started-grows marks mark id is = started-more marks mark id ∙ or_left (is_started marks id) (starts id mark) is
 
 -- an end of another model leaves what started and what ended
 pub abort-elsewhere : (marks : List Mark) (b : Bool) (model commit id : ℕ) → id ≢ model
-    → (is_started (marks ++ mark_if b (Aborted model commit)) id ≡ is_started marks id)
-    × (is_ended (marks ++ mark_if b (Aborted model commit)) id ≡ is_ended marks id)
+    → (is_started (marks ++ mark_if b (OfModel model (Aborted commit))) id ≡ is_started marks id)
+    × (is_ended (marks ++ mark_if b (OfModel model (Aborted commit))) id ≡ is_ended marks id)
 abort-elsewhere marks true model commit id other = (
-  started-more marks (Aborted model commit) id ∙ or-false (is_started marks id),
-  ended-more marks (Aborted model commit) id ∙ ap (λ b. is_ended marks id || b) (apart id model other) ∙ or-false (is_ended marks id),
+  started-more marks (OfModel model (Aborted commit)) id ∙ or-false (is_started marks id),
+  ended-more marks (OfModel model (Aborted commit)) id ∙ ap (λ b. is_ended marks id || b) (ne_eqb id model other) ∙ or-false (is_ended marks id),
 )
 abort-elsewhere marks false model commit id other = (ap (λ (l : List Mark). is_started l id) (append-nil marks), ap (λ (l : List Mark). is_ended l id) (append-nil marks))
 
--- a model of which there is no mark waits
-unmarked : (marks : List Mark) (id : ℕ) → has_mark marks id ≡ false
-    → (is_aborted marks id ≡ false) × (is_ended marks id ≡ false) × (is_started marks id ≡ false)
-unmarked [] id none = (refl, refl, refl)
-unmarked (Started model group element property at start ∷ marks) id none =
-    let both = or-neither (id == model) (has_mark marks id) none in
-    let rest = unmarked marks id both.1 in
-    (rest.0, rest.1, ap (λ b. b || is_started marks id) both.0 ∙ rest.2)
-unmarked (Finished model at ∷ marks) id none =
-    let both = or-neither (id == model) (has_mark marks id) none in
-    let rest = unmarked marks id both.1 in
-    (rest.0, ap (λ b. b || is_ended marks id) both.0 ∙ rest.1, rest.2)
-unmarked (Aborted model commit ∷ marks) id none =
-    let both = or-neither (id == model) (has_mark marks id) none in
-    let rest = unmarked marks id both.1 in
-    (ap (λ b. b || is_aborted marks id) both.0 ∙ rest.0, ap (λ b. b || is_ended marks id) both.0 ∙ rest.1, rest.2)
+-- what a mark says of a model is a mark about it
+says-about : (test : ModelMark → Bool) (id : ℕ) (mark : Mark) → says test id mark ≡ true → is_about id mark ≡ true
+says-about test id (OfModel model what) is = (and_parts (test what) (id == model) is).1
+
+-- so a model that started or ended has a mark
+pub started-marked : (marks : List Mark) (id : ℕ) → is_started marks id ≡ true → has_mark marks id ≡ true
+started-marked marks id = any-so (starts id) (is_about id) marks (says-about is_start id)
+
+pub ended-marked : (marks : List Mark) (id : ℕ) → is_ended marks id ≡ true → has_mark marks id ≡ true
+ended-marked marks id = any-so (ends id) (is_about id) marks (says-about is_end id)
+
+-- and of one that has none they say nothing
+unmarked : (test : ModelMark → Bool) (marks : List Mark) (id : ℕ) → has_mark marks id ≡ false → list_any (says test id) marks ≡ false
+unmarked test marks id none =
+    any-none (says test id) marks
+    (λ mark among is. true≢false (sym (any-among (is_about id) mark marks among (says-about test id mark is)) ∙ none))
 
 waiting-from : (aborted ended : Bool) (start : Option Shown) → aborted ≡ false → is_some start ≡ false → state_from aborted ended start ≡ state.Waiting
 waiting-from true ended start alive none = cc
@@ -365,8 +310,8 @@ waiting-from false ended (Some shown) alive none = cc
 pub unmarked-waits : (marks : List Mark) (id : ℕ) → has_mark marks id ≡ false → state_of marks id ≡ state.Waiting
 unfolding state_of
 unmarked-waits marks id none =
-    let parts = unmarked marks id none in
-    waiting-from (is_aborted marks id) (is_ended marks id) (start_of marks id) parts.0 (start_of-started marks id ∙ parts.2)
+    waiting-from (is_aborted marks id) (is_ended marks id) (start_of marks id) (unmarked is_abort marks id none)
+    (start_of-started marks id ∙ unmarked is_start marks id none)
 
 -- a model of a commit that follows waits where it is not in the active one
 pub follows-waits : (active pending : TreeLists) (marks : List Mark) → Follows active pending marks

@@ -12,14 +12,14 @@ abbrev pub is_listed : List Element → ℕ → Bool
 is_listed elements id = list_any (λ element. id == element.id) elements
 
 -- the pending commit has the element
-abbrev pub pending_has : Option Committed → ℕ → Bool
-pending_has None id = false
-pending_has (Some commit) id = has_element commit.tree id
+abbrev pub pending_has_element : Option Committed → ℕ → Bool
+pending_has_element None id = false
+pending_has_element (Some commit) id = has_element commit.tree id
 
 -- the commit in this tree has the element
 abbrev pub has_in : Tree → Committed → Option Committed → ℕ → Bool
 has_in Active active pending id = has_element active.tree id
-has_in Pending active pending id = pending_has pending id
+has_in Pending active pending id = pending_has_element pending id
 
 -- The table says of these elements whether this tree has them; all else is as it was.
 pub record AreSet (tree : Tree) (elements : List Element) (there : Bool) (old new : Anims) : Type 0 where
@@ -29,4 +29,4 @@ pub record AreSet (tree : Tree) (elements : List Element) (there : Bool) (old ne
 -- The table says which elements are in the active commit and which in the pending one.
 pub record PresenceStands (table : Anims) (active : Committed) (pending : Option Committed) : Type 0 where
   pub of_active : (e : ℕ) → is_present table Active e ≡ has_element active.tree e
-  pub of_pending : (e : ℕ) → is_present table Pending e ≡ pending_has pending e
+  pub of_pending : (e : ℕ) → is_present table Pending e ≡ pending_has_element pending e

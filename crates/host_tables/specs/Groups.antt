@@ -1,14 +1,14 @@
 -- The rows that the host keeps of the groups of the active commit, and what each says.
 use Rattle.std.specs.Prelude.{ℕ, nat_eq, ◌==◌, Bool, not, ◌&&◌, List, [], ◌∷◌, filter, count_by, Option, Some, None}
 use Rattle.std.specs.Map.{lookup}
-use Rattle.anim_names.specs.declared.property.Property.TheVariants.{Opacity, Transform}
+use Rattle.anim_names.specs.Properties.{for_each}
 use Rattle.keyframe_model.specs.Models.{Spec}
 use Rattle.keyframe_effect.specs.declared.group.GroupRow.{GroupRow}
 use Rattle.keyframe_effect.specs.declared.state.RunState.{RunState}
 use Rattle.keyframe_effect.specs.Groups.{first_row, row_with}
 use Rattle.keyframe_effect.specs.Rule.{animates}
-use Rattle.tree_commit.specs.declared.runs.mark.Mark.{Mark}
-use Rattle.tree_commit.specs.Marks.{is_ended, is_running, is_started}
+use Rattle.run_rules.specs.declared.mark.Mark.{Mark}
+use Rattle.run_rules.specs.Marks.{is_ended, is_unfinished, is_started}
 
 -- Under the id of each group its row; and for how many more rows there is room.
 pub record Groups : Type 0 where
@@ -38,9 +38,8 @@ row_of_members marks group (first ∷ mates) = Some (record {
   group = group;
   element = first.element;
   waiting = count_by (λ model. is_waiting marks model.id) (first ∷ mates);
-  unfinished = count_by (λ model. is_running marks model.id) (first ∷ mates);
-  opacity = animates Opacity (first ∷ mates);
-  transform = animates Transform (first ∷ mates);
+  unfinished = count_by (λ model. is_unfinished marks model.id) (first ∷ mates);
+  animates = for_each (λ property. animates property (first ∷ mates));
 })
 
 -- the row of a group, where these models are in the active commit

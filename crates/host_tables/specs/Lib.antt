@@ -1,7 +1,7 @@
 pub mod MarkLists
 pub mod Rows
 pub mod States
-pub mod Shapes
+pub mod CommitGroups
 pub mod Elements
 pub mod Blocks
 pub mod Groups

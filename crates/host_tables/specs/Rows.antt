@@ -6,21 +6,21 @@ use Rattle.keyframe_effect.specs.declared.state.RunState.{RunState}
 use Rattle.keyframe_effect.specs.declared.state.RunState.TheVariants as state
 use Rattle.keyframe_effect.specs.States.{after_done}
 use Rattle.host_tables.specs.States.{advanced, as_marked, is_found_over}
-use Rattle.tree_commit.specs.declared.runs.mark.Mark.{Mark}
+use Rattle.run_rules.specs.declared.mark.ModelMark.{ModelMark}
 
--- A slab of rows; under the id of each model the place of its row; and for how many more rows there is room.
+-- A slab of rows; under the id of each model the key of its row; and for how many more rows there is room.
 pub record Rows : Type 0 where
   pub slots : List (Option ModelRow)
-  pub places : List (ℕ × ℕ)
+  pub keys : List (ℕ × ℕ)
   pub room : ℕ
 
--- the row at a place
+-- the row at a key
 abbrev pub slot_at : List (Option ModelRow) → ℕ → Option ModelRow
-slot_at slots place = slice_index_or slots place None
+slot_at slots key = slice_index_or slots key None
 
 -- the row of a model
 abbrev pub row_at : Rows → ℕ → Option ModelRow
-row_at rows id = option_and_then (slot_at rows.slots) (lookup (nat_eq id) rows.places)
+row_at rows id = option_and_then (slot_at rows.slots) (lookup (nat_eq id) rows.keys)
 
 -- how far a model has come by its row; one that has none waits
 abbrev pub state_in : Option ModelRow → RunState
@@ -31,10 +31,10 @@ state_in (Some row) = row.state
 abbrev pub row_count : Rows → ℕ
 row_count rows = count_by is_some rows.slots
 
--- the place of each id is that of the row of the model with that id
-abbrev pub PlacesLead : List (Option ModelRow) → List (ℕ × ℕ) → Type 0
-PlacesLead slots places =
-    (id place : ℕ) → lookup (nat_eq id) places ≡ Some place → option_map (λ row. row.model) (slot_at slots place) ≡ Some id
+-- the key of each id is that of the row of the model with that id
+abbrev pub KeysLead : List (Option ModelRow) → List (ℕ × ℕ) → Type 0
+KeysLead slots keys =
+    (id key : ℕ) → lookup (nat_eq id) keys ≡ Some key → option_map (λ row. row.model) (slot_at slots key) ≡ Some id
 
 -- ---- what no mark says
 
@@ -57,9 +57,9 @@ done_row row = record row { state = after_done row.state }
 
 -- ---- what becomes of a row as the commits change
 
--- the row with one more mark about its model, which has this index
-abbrev pub advanced_row : Mark → ℕ → ModelRow → ModelRow
-advanced_row mark order row = record row { state = advanced row.state mark order }
+-- the row of a model of which this became in the mark of this index
+abbrev pub advanced_row : ModelMark → ℕ → ModelRow → ModelRow
+advanced_row what order row = record row { state = advanced row.state what order }
 
 -- the row of a model that is in the pending commit from now on; one that had none waits
 abbrev pub joined : ℕ → Option ModelRow → ModelRow

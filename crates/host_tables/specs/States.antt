@@ -2,11 +2,12 @@
 use Rattle.std.specs.Prelude.{◌≡◌, ℕ, ◌==◌, Bool, true, false, List, [], Option, Some, None}
 use Rattle.std.specs.List.{list_any}
 use Rattle.keyframe_model.specs.Models.{Spec}
-use Rattle.tree_commit.specs.declared.runs.mark.Mark.{Mark}
-use Rattle.tree_commit.specs.declared.runs.mark.Mark.TheVariants.{Started, Finished, Aborted}
-use Rattle.tree_commit.specs.declared.runs.shown.Shown.{Shown}
+use Rattle.run_rules.specs.declared.mark.Mark.{Mark}
+use Rattle.run_rules.specs.declared.mark.ModelMark.{ModelMark}
+use Rattle.run_rules.specs.declared.mark.ModelMark.TheVariants.{Started, Finished, Aborted}
+use Rattle.tree_commit.specs.declared.shown.Shown.{Shown}
 use Rattle.tree_commit.specs.Trees.{Committed}
-use Rattle.tree_commit.specs.Marks.{is_aborted, is_ended, is_started, start_of}
+use Rattle.run_rules.specs.Marks.{is_aborted, is_ended, is_started, start_of}
 use Rattle.keyframe_effect.specs.declared.model.ModelRow.{ModelRow}
 use Rattle.keyframe_effect.specs.States.{after_finish, after_start}
 use Rattle.keyframe_effect.specs.declared.state.RunState.{RunState}
@@ -36,11 +37,11 @@ FinishesStarted marks =
 
 -- ---- what one more mark changes
 
--- the state of a model with one more mark about it, which has this index
-abbrev pub advanced : RunState → Mark → ℕ → RunState
-advanced before (Started model group element property at start) order = after_start before start order
-advanced before (Finished model at) order = after_finish before
-advanced before (Aborted model commit) order = state.Aborted
+-- the state of a model of which this became in the mark of this index
+abbrev pub advanced : RunState → ModelMark → ℕ → RunState
+advanced before (Started begun) order = after_start before begun.start order
+advanced before (Finished at) order = after_finish before
+advanced before (Aborted commit) order = state.Aborted
 
 -- ---- what a state says
 

@@ -1,12 +1,10 @@
-//! What the table of elements is told as commits change, and as groups start and end.
+//! What the table of elements is told as commits change, and as groups start.
 
-ghost use Rattle.std.specs.Prelude.{◌≡◌, ◌⊎◌, ◌≤◌, ◌==◌, ◌&&◌, ℕ, true, false, if◌then◌else◌, length, None, Some, OnOk};
+ghost use Rattle.std.specs.Prelude.{◌≡◌, ◌⊎◌, ◌≤◌, ℕ, true, false, length, None, Some, OnOk};
 ghost use Rattle.host_tables.specs.Elements.{AreSet};
-ghost use Rattle.host_tables.specs.Blocks.{IsReleased, is_held_by};
-ghost use Rattle.anim_names.specs.declared.lane.Tree as lane;
 ghost use Rattle.anim_names.specs.declared.lane.Tree.TheVariants as tree;
 ghost use Rattle.anim_names.specs.declared.property.Property as kinds;
-ghost use Rattle.element_anims.specs.Elements.{IsSetBlocker, SaysTheSame, blocker_of, is_known, is_present, is_property};
+ghost use Rattle.element_anims.specs.Elements.{IsSetBlocker, SaysTheSame, blocker_of, is_known, is_present};
 ghost use Rattle.tree_commit.specs.Trees.{has_element};
 
 use anim_names::{ElementId, GroupId, Property, Tree};
@@ -71,41 +69,12 @@ pub fn reserve(table: &mut ElementAnims, commit: &Commit) -> Result<(), AllocErr
 }
 
 /// The group blocks the property of the element, which is free or its own.
-pub fn hold(table: &mut ElementAnims, element: ElementId, property: Property, group: GroupId)
+pub fn block(table: &mut ElementAnims, element: ElementId, property: Property, group: GroupId)
     requires free { (blocker_of table.old element property ≡ None) ⊎ (blocker_of table.old element property ≡ Some group) }
     requires known { is_known table.old element ≡ true }
     ensures { IsSetBlocker element property (Some group) table.old table.new }
 {
     if table.blocked_by(element, property).is_none() {
         table.block(element, property, group);
-    }
-}
-
-/// The group blocks nothing of the element any more.
-pub fn release(table: &mut ElementAnims, element: ElementId, group: GroupId)
-    ensures freed { IsReleased element group table.old table.new }
-    ensures presence { (t : lane.Tree) (e : ℕ) → is_present table.new t e ≡ is_present table.old t e }
-{
-    release_one(table, element, Property::Opacity, group);
-    release_one(table, element, Property::Transform, group);
-}
-
-fn release_one(table: &mut ElementAnims, element: ElementId, property: Property, group: GroupId)
-    ensures freed { (e : ℕ) (p : kinds.Property) → blocker_of table.new e p
-        ≡ (if (element == e && is_property property p) && is_held_by group (blocker_of table.old e p) then None else blocker_of table.old e p) }
-    ensures presence { (t : lane.Tree) (e : ℕ) → is_present table.new t e ≡ is_present table.old t e }
-{
-    if holds(table, element, property, group) {
-        table.unblock(element, property);
-    }
-}
-
-// Whether it is this group that blocks the property of the element.
-fn holds(table: &ElementAnims, element: ElementId, property: Property, group: GroupId) -> bool
-    ensures { result ≡ is_held_by group (blocker_of table.now element property) }
-{
-    match table.blocked_by(element, property) {
-        None => false,
-        Some(holder) => group == holder,
     }
 }

@@ -1,3 +1,5 @@
+//! The table of groups' rows by the ids of the groups, with counts that each change of a model's state adjusts.
+
 ghost use Rattle.std.specs.Prelude.{◌≡◌, ◌≢◌, ℕ, ◌+◌, ◌≤◌, ◌<◌, Some, None, IfSome, IsSome, OnOk, option_map};
 ghost use Rattle.host_tables.specs.Groups.{group_at, joined_row};
 ghost use Rattle.keyframe_effect.specs.Groups.{CanMove, moved};

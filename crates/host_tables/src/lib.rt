@@ -5,18 +5,18 @@
 //! there should be or which marks come when: that is the host's.
 #![tactic(auto)]
 
+mod commit_groups;
 pub mod elements;
 mod groups;
 mod mark_list;
 mod row;
 mod rows;
-mod shape;
 
+pub use commit_groups::CommitGroups;
 pub use groups::GroupTable;
 pub use mark_list::{MarkList, sum};
 pub use row::{advanced, shown};
 pub use rows::RowTable;
-pub use shape::Shape;
 
 /// The most marks that a list keeps: 2^32, so that the index of each is a `u32`. Two for each of the most keyframe
 /// models of a host are fewer.

@@ -1,13 +1,16 @@
-ghost use Rattle.std.specs.Prelude.{◌≡◌, ◌+◌, ◌<◌, ◌≤◌, [], ◌∷◌, length, take, OnOk, OnErr, IfOk};
+//! The list of marks, and the events of those that are not yet sent. Nothing is ever taken out of it.
+
+ghost use Rattle.std.specs.Prelude.{◌≡◌, ◌+◌, ◌<◌, ◌≤◌, [], ◌∷◌, length, OnOk, OnErr, IfOk};
 ghost use Rattle.host_tables.specs.declared.TheConstants.{MOST_MARKS};
-ghost use Rattle.host_tables.specs.MarkLists.{StartIsWithin, StartsAreWithin, events_behind, mark_if, with_marks};
-ghost use Rattle.tree_commit.specs.Marks.{event_of, model_of};
+ghost use Rattle.host_tables.specs.MarkLists.{BeginsWithin, StartsAreWithin, events_behind, with_marks};
+ghost use Rattle.run_rules.specs.Marks.{event_of_model};
+ghost use Rattle.run_rules.specs.declared.mark.Mark.TheVariants.{OfModel};
 
 use crate::MOST_MARKS;
 use anim_names::{AnimEvent, ModelId};
+use run_rules::{Mark, ModelMark};
 use std::alloc::{AllocError, Global};
 use std::marker::Model;
-use tree_commit::Mark;
 
 /// All marks, in order, and the events of those behind the last clearing.
 ///
@@ -88,17 +91,6 @@ impl MarkList {
         self.marks.len() as u32
     }
 
-    /// The first marks, up to this number.
-    #[tactic(auto, using(crate::proofs::MarkListLemmas::within_take))]
-    pub fn first(&self, count: usize) -> &[Mark]
-        requires { count ≤ length self.now.marks }
-        ensures first { result.now ≡ take count self.now.marks }
-        ensures most { length result.now ≤ MOST_MARKS }
-        ensures within { StartsAreWithin result.now }
-    {
-        &self.marks[..count]
-    }
-
     /// The events of the marks since the news were cleared.
     pub fn news(&self) -> &[AnimEvent]
         ensures events { result.now ≡ events_behind self.now.cleared self.now.marks }
@@ -138,26 +130,16 @@ impl MarkList {
         Ok(())
     }
 
-    /// Puts a mark behind the others.
+    /// Puts the mark of what became of a model behind the others.
     #[tactic(auto, using(crate::proofs::MarkListLemmas::pushes))]
-    pub fn push(&mut self, mark: Mark)
+    pub fn push(&mut self, model: ModelId, what: &ModelMark)
         requires room { length self.old.marks < self.old.room }
-        requires within { StartIsWithin mark }
-        ensures { self.new ≡ with_marks self.old (mark ∷ []) }
+        requires within { BeginsWithin what.now }
+        ensures { self.new ≡ with_marks self.old (OfModel model what.now ∷ []) }
     {
-        self.marks.push_reserved(mark);
-        self.news.push_reserved(event_of(&mark));
-    }
-
-    /// Puts a mark behind the others where the test says so.
-    pub fn push_if(&mut self, test: bool, mark: Mark)
-        requires room { length self.old.marks < self.old.room }
-        requires within { StartIsWithin mark }
-        ensures { self.new ≡ with_marks self.old (mark_if test mark) }
-    {
-        if test {
-            self.push(mark);
-        }
+        self.marks
+            .push_reserved(Mark::OfModel { model, what: *what });
+        self.news.push_reserved(event_of(model, what));
     }
 
     /// The news are cleared: all marks were told.
@@ -179,36 +161,18 @@ pub fn sum(count: usize, more: usize) -> Result<usize, AllocError>
     }
 }
 
-// The event that main hears of a mark.
-fn event_of(mark: &Mark) -> AnimEvent
-    ensures { result ≡ event_of mark.now }
+// The event that main hears of what became of a model.
+fn event_of(model: ModelId, what: &ModelMark) -> AnimEvent
+    ensures { result ≡ event_of_model model what.now }
 {
-    match *mark {
-        Mark::Started {
+    match *what {
+        ModelMark::Started(begun) => AnimEvent::Started {
             model,
-            group,
-            element: _,
-            property: _,
-            at,
-            start,
-        } => AnimEvent::Started {
-            model,
-            group,
-            at,
-            start,
+            group: begun.group,
+            at: begun.at,
+            start: begun.start,
         },
-        Mark::Finished { model, at } => AnimEvent::Finished { model, at },
-        Mark::Aborted { model, commit } => AnimEvent::Aborted { model, commit },
-    }
-}
-
-/// The model that the mark is about.
-pub(crate) fn model_of(mark: &Mark) -> ModelId
-    ensures { result ≡ model_of mark.now }
-{
-    match *mark {
-        Mark::Started { model, .. } => model,
-        Mark::Finished { model, .. } => model,
-        Mark::Aborted { model, .. } => model,
+        ModelMark::Finished { at } => AnimEvent::Finished { model, at },
+        ModelMark::Aborted { commit } => AnimEvent::Aborted { model, commit },
     }
 }

@@ -5,7 +5,8 @@ ghost use Rattle.host_tables.specs.Rows.{advanced_row};
 ghost use Rattle.host_tables.specs.States.{advanced, shown_at};
 
 use keyframe_effect::{ModelRow, RunState};
-use tree_commit::{Mark, Shown};
+use run_rules::ModelMark;
+use tree_commit::Shown;
 
 /// What is shown of a model in this state: nothing before it started and once it was aborted.
 pub fn shown(state: RunState) -> Option<Shown>
@@ -20,26 +21,26 @@ pub fn shown(state: RunState) -> Option<Shown>
     }
 }
 
-/// The state of a model with one more mark about it, which has this index among the marks.
-pub fn advanced(state: RunState, mark: &Mark, order: u32) -> RunState
-    ensures { result ≡ advanced state mark.now order }
+/// The state of a model of which this became in the mark of this index.
+pub fn advanced(state: RunState, what: &ModelMark, order: u32) -> RunState
+    ensures { result ≡ advanced state what.now order }
 {
-    match *mark {
-        Mark::Started { start, .. } => state.after_start(start, order),
-        Mark::Finished { .. } => state.after_finish(),
-        Mark::Aborted { .. } => RunState::Aborted,
+    match *what {
+        ModelMark::Started(begun) => state.after_start(begun.start, order),
+        ModelMark::Finished { .. } => state.after_finish(),
+        ModelMark::Aborted { .. } => RunState::Aborted,
     }
 }
 
-/// The row with one more mark about its model, which has this index among the marks.
-pub(crate) fn advanced_row(row: ModelRow, mark: &Mark, order: u32) -> ModelRow
-    ensures { result ≡ advanced_row mark.now order row }
+/// The row of a model of which this became in the mark of this index.
+pub(crate) fn advanced_row(row: ModelRow, what: &ModelMark, order: u32) -> ModelRow
+    ensures { result ≡ advanced_row what.now order row }
 {
     let mut row = row;
-    match *mark {
-        Mark::Started { start, .. } => row.start(start, order),
-        Mark::Finished { .. } => row.finish(),
-        Mark::Aborted { .. } => row.abort(),
+    match *what {
+        ModelMark::Started(begun) => row.start(begun.start, order),
+        ModelMark::Finished { .. } => row.finish(),
+        ModelMark::Aborted { .. } => row.abort(),
     }
     row
 }

@@ -1,17 +1,18 @@
-ghost use Rattle.std.specs.Prelude.{◌≡◌, ◌≢◌, ℕ, ◌+◌, ◌≤◌, ◌<◌, Some, None, IfOk, OnOk, OnErr, nat_eq, is_some, true, IfSome, option_map, option_and_then};
+//! The table of models' rows by the ids of the models: how each row changes by a mark, and by a commit that comes or
+//! goes.
+
+ghost use Rattle.std.specs.Prelude.{◌≡◌, ◌≢◌, ℕ, ◌+◌, ◌≤◌, ◌<◌, Some, None, OnOk, is_some, true, IfSome, option_map, option_and_then};
 ghost use Rattle.keyframe_effect.specs.Groups.{one_if};
 ghost use Rattle.host_tables.specs.Rows.{advanced_row, done_row, entered, joined, left, row_at, row_count, state_in};
-ghost use Rattle.tree_commit.specs.Marks.{model_of};
 
-use crate::mark_list::model_of;
 use crate::row::advanced_row;
 use anim_names::ModelId;
 use keyframe_effect::{ModelRow, RunState};
+use run_rules::ModelMark;
 use slab::Slab;
 use std::alloc::{AllocError, Global};
 use std::collections::HashMap;
 use std::marker::Model;
-use tree_commit::Mark;
 
 /// The rows of keyframe models, each under the id of its model.
 ///
@@ -19,7 +20,7 @@ use tree_commit::Mark;
 /// many more can be put in without memory.
 pub struct RowTable {
     rows: Slab<ModelRow>,
-    places: HashMap<ModelId, usize>,
+    keys: HashMap<ModelId, usize>,
     room: usize,
 }
 
@@ -27,7 +28,7 @@ impl Drop for RowTable {
     fn drop(self) {
         let RowTable {
             rows: _rows,
-            places: _places,
+            keys: _indices,
             room: _,
         } = self;
     }
@@ -37,16 +38,16 @@ impl Model for RowTable {
     ghost use Rattle.std.specs.Prelude.{◌≤◌};
     ghost use Rattle.std.specs.HashMap.{spare};
     ghost use Rattle.slab.specs.Slab.{HasRoomFor};
-    ghost use Rattle.host_tables.specs.Rows.{Rows, PlacesLead};
+    ghost use Rattle.host_tables.specs.Rows.{Rows, KeysLead};
 
     ghost Value = { Rows };
 
-    ghost view = { λ t. record { slots = t.rows.slots; places = t.places.entries; room = t.room } };
+    ghost view = { λ t. record { slots = t.rows.slots; keys = t.keys.entries; room = t.room } };
 
     ghost invariant = { λ t.
-        PlacesLead t.rows.slots t.places.entries
+        KeysLead t.rows.slots t.keys.entries
         × HasRoomFor t.rows t.room
-        × (t.room ≤ spare t.places) };
+        × (t.room ≤ spare t.keys) };
 }
 
 impl RowTable {
@@ -57,7 +58,7 @@ impl RowTable {
     {
         RowTable {
             rows: Slab::new(alloc),
-            places: HashMap::new(alloc),
+            keys: HashMap::new(alloc),
             room: 0,
         }
     }
@@ -74,7 +75,7 @@ impl RowTable {
         ensures row { result ≡ row_at self.now id }
         ensures own { IfSome result (λ row. row.model ≡ id) }
     {
-        match self.places.get(&id) {
+        match self.keys.get(&id) {
             None => None,
             Some(key) => self.rows.get(*key).copied(),
         }
@@ -97,7 +98,7 @@ impl RowTable {
         ensures count { row_count self.new ≡ row_count self.old }
     {
         self.rows.reserve(count)?;
-        self.places.reserve(count)?;
+        self.keys.reserve(count)?;
         self.room = count;
         Ok(())
     }
@@ -113,7 +114,7 @@ impl RowTable {
     {
         let id = row.model;
         let key = self.rows.insert_reserved(row);
-        match self.places.insert(id, key) {
+        match self.keys.insert(id, key) {
             Ok(_) => {}
             Err(_) => {}
         }
@@ -128,7 +129,7 @@ impl RowTable {
         ensures count { row_count self.new ≡ row_count self.old }
         ensures room { self.new.room ≡ self.old.room }
     {
-        if let Some(key) = self.places.get(&row.model) {
+        if let Some(key) = self.keys.get(&row.model) {
             if let Some(kept) = self.rows.get_mut(*key) {
                 *kept = row;
             }
@@ -142,21 +143,20 @@ impl RowTable {
         ensures count { row_count self.new + one_if (is_some (row_at self.old id)) ≡ row_count self.old }
         ensures room { self.new.room ≡ self.old.room }
     {
-        if let Some(key) = self.places.remove(&id) {
+        if let Some(key) = self.keys.remove(&id) {
             let _ = self.rows.try_remove(key);
         }
     }
 
-    /// Puts what the mark says, which has this index among the marks, into the row of its model.
-    pub fn advance(&mut self, mark: &Mark, order: u32)
-        ensures here { row_at self.new (model_of mark.now)
-            ≡ option_map (advanced_row mark.now order) (row_at self.old (model_of mark.now)) }
-        ensures others { (id : ℕ) → id ≢ model_of mark.now → row_at self.new id ≡ row_at self.old id }
+    /// Puts what became of the model into its row. The mark of it has this index among the marks.
+    pub fn advance(&mut self, model: ModelId, what: &ModelMark, order: u32)
+        ensures here { row_at self.new model ≡ option_map (advanced_row what.now order) (row_at self.old model) }
+        ensures others { (id : ℕ) → id ≢ model → row_at self.new id ≡ row_at self.old id }
         ensures count { row_count self.new ≡ row_count self.old }
         ensures room { self.new.room ≡ self.old.room }
     {
-        if let Some(row) = self.row(model_of(mark)) {
-            self.set(advanced_row(row, mark, order));
+        if let Some(row) = self.row(model) {
+            self.set(advanced_row(row, what, order));
         }
     }
 

@@ -4,11 +4,11 @@ use Rattle.std.specs.Prelude.{IsTrue}
 use Rattle.std.specs.List.{list_any}
 use Rattle.std.proofs.lemmas.Bool.{false≢true}
 use Rattle.keyframe_model.specs.Models.{Spec}
-use Rattle.tree_commit.specs.declared.runs.mark.Mark.{Mark}
+use Rattle.run_rules.specs.declared.mark.Mark.{Mark}
 use Rattle.tree_commit.specs.Edits.{is_in}
 use Rattle.tree_commit.specs.Trees.{Committed, TreeLists, empty_commit, empty_tree, has_model}
-use Rattle.tree_commit.specs.Follows.{Follows, IsKnown, has_mark}
-use Rattle.anim_host.specs.Hosting.{HasRoomFor, Hosting}
+use Rattle.run_rules.specs.Follows.{Follows, IsKnown, has_mark}
+use Rattle.anim_host.specs.Hosting.{HasRoomToPush, Hosting}
 use Rattle.run_laws.proofs.AddedModels.{distinct_within}
 use Rattle.host_tests.specs.Steps.{GroupsAgree}
 
@@ -57,7 +57,7 @@ known-there host commit id active marks (inr (inl there)) =
 known-there host commit id active marks (inr (inr there)) = there
 
 pub room-first : (host : Hosting) (commit : Committed) → host.active ≡ empty_commit → host.marks ≡ []
-    → length commit.tree.models ≤ host.models → HasRoomFor host commit
+    → length commit.tree.models ≤ host.models → HasRoomToPush host commit
 room-first host commit active marks room ids distinct known =
     let few = distinct_within ids (ids_of commit.tree.models) distinct
     (λ id among. ids-have commit.tree.models id (known-there host commit id active marks (known id among))) in

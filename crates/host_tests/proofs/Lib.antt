@@ -1,3 +1,3 @@
 pub mod FirstCommits
 pub mod NextCommits
-pub mod Places
+pub mod Indices

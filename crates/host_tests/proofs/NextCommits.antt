@@ -5,14 +5,17 @@ use Rattle.std.specs.List.{IsDistinct, list_any}
 use Rattle.std.proofs.lemmas.Bool.{false≢true, eqb-true}
 use Rattle.anim_names.specs.declared.event.AnimEvent.{AnimEvent}
 use Rattle.keyframe_model.specs.Models.{Spec}
-use Rattle.tree_commit.specs.declared.runs.mark.Mark.{Mark}
-use Rattle.tree_commit.specs.declared.runs.mark.Mark.TheVariants.{Started, Finished, Aborted}
-use Rattle.tree_commit.specs.Edits.{Change, AddElement, RemoveElement, SetOpacity, SetTransform, AddTimeline, AddModel, RemoveModel, tree_after}
-use Rattle.tree_commit.specs.Follows.{Follows, IsAmong, IsKnown, KnowsAtMost, has_mark}
-use Rattle.tree_commit.specs.Marks.{event_of, model_of}
-use Rattle.tree_commit.specs.Runs.{model_of_event}
+use Rattle.run_rules.specs.declared.mark.Mark.{Mark}
+use Rattle.run_rules.specs.declared.mark.Mark.TheVariants.{OfModel}
+use Rattle.run_rules.specs.declared.mark.ModelMark.TheVariants.{Started, Finished, Aborted}
+use Rattle.tree_commit.specs.Edits.{Change, OnElements, OnTimelines, OnModels, AddModel, RemoveModel, tree_after}
+use Rattle.run_rules.specs.Follows.{Follows, IsKnown, KnowsAtMost, has_mark}
+use Rattle.anim_names.specs.Lists.{IsAmong}
+use Rattle.run_rules.specs.Marks.{event_of, is_about, model_of}
+use Rattle.run_rules.specs.Runs.{model_of_event}
 use Rattle.tree_commit.specs.Trees.{Clock, TreeLists, has_model, origin_of}
 use Rattle.run_laws.proofs.AddedModels.{distinct_within}
+use Rattle.run_rules.proofs.MarkLemmas.{about-model}
 use Rattle.tree_commit.proofs.Among.{among-map, among-without, any-among, any-cases, each-among, one-model}
 use Rattle.host_tests.specs.Steps.{GroupsAgree, OnlyElementsAreNew, adds_elements_alone}
 use Rattle.host_tests.proofs.FirstCommits.{ids_of, ids-have, ids-length}
@@ -30,13 +33,10 @@ new_further one two three h i = record {
 
 pub new_after : (tree : TreeLists) (change : Change) → adds_elements_alone change ≡ true → OnlyElementsAreNew tree (tree_after tree change)
 unfolding tree_after
-new_after tree (AddElement id look) h = record { models = λ model a. a; timelines = refl }
-new_after tree (RemoveElement id) h = record { models = λ model a. a; timelines = refl }
-new_after tree (SetOpacity id opacity) h = record { models = λ model a. a; timelines = refl }
-new_after tree (SetTransform id transform) h = record { models = λ model a. a; timelines = refl }
-new_after tree (AddTimeline id origin) h = absurd (false≢true h)
-new_after tree (AddModel model) h = absurd (false≢true h)
-new_after tree (RemoveModel id) h = record {
+new_after tree (OnElements change) h = record { models = λ model a. a; timelines = refl }
+new_after tree (OnTimelines change) h = absurd (false≢true h)
+new_after tree (OnModels (AddModel model)) h = absurd (false≢true h)
+new_after tree (OnModels (RemoveModel id)) h = record {
   models = λ model a. among-without (λ (m : Spec). id == m.id) model tree.models a;
   timelines = refl;
 }
@@ -58,20 +58,20 @@ follows_next old new marks apart few agree = record {
 }
 
 event-model : (mark : Mark) → model_of_event (event_of mark) ≡ model_of mark
-event-model (Started model group element property at start) = refl
-event-model (Finished model at) = refl
-event-model (Aborted model commit) = refl
+event-model (OfModel model (Started begun)) = refl
+event-model (OfModel model (Finished at)) = refl
+event-model (OfModel model (Aborted commit)) = refl
 
 -- where the models of all events are there, so are those of their marks
 marks-known : (tree : TreeLists) (marks : List Mark)
     → All (λ (event : AnimEvent). IsTrue (has_model tree (model_of_event event))) (map event_of marks)
     → (id : ℕ) → has_mark marks id ≡ true → has_model tree id ≡ true
 marks-known tree marks told id has =
-    let found = any-cases (λ (mark : Mark). id == model_of mark) marks has in
+    let found = any-cases (is_about id) marks has in
     let P : AnimEvent → Type 0 = λ event. IsTrue (has_model tree (model_of_event event)) in
     let there = each-among P (event_of found.0) (map event_of marks) told
     (among-map event_of found.0 marks found.1) in
-    subst (λ (n : ℕ). has_model tree n ≡ true) (event-model found.0 ∙ sym (eqb-true id (model_of found.0) found.2)) there
+    subst (λ (n : ℕ). has_model tree n ≡ true) (event-model found.0 ∙ sym (about-model id found.0 found.2)) there
 
 known-before : (old new : TreeLists) (marks : List Mark) → OnlyElementsAreNew old new
     → ((id : ℕ) → has_mark marks id ≡ true → has_model old id ≡ true)

@@ -1,8 +1,9 @@
 -- What the tests look at in code, of commits and of steps, so that the host may be given the next commit.
 use Rattle.std.specs.Prelude.{◌≡◌, Bool, true, false}
 use Rattle.keyframe_model.specs.Models.{Spec}
-use Rattle.tree_commit.specs.Edits.{Change, AddElement, RemoveElement, SetOpacity, SetTransform, AddTimeline, AddModel, RemoveModel}
-use Rattle.tree_commit.specs.Follows.{AgreeAsGroup, IsAmong}
+use Rattle.tree_commit.specs.Edits.{Change, OnElements, OnTimelines, OnModels, AddModel, RemoveModel}
+use Rattle.run_rules.specs.Follows.{AgreeAsGroup}
+use Rattle.anim_names.specs.Lists.{IsAmong}
 use Rattle.tree_commit.specs.Trees.{TreeLists}
 use Rattle.anim_host.specs.Hosting.{Hosting}
 
@@ -19,13 +20,10 @@ pub record OnlyElementsAreNew (old new : TreeLists) : Type 0 where
 
 -- the edit adds an element or nothing
 abbrev pub adds_elements_alone : Change → Bool
-adds_elements_alone (AddElement id look) = true
-adds_elements_alone (RemoveElement id) = true
-adds_elements_alone (SetOpacity id opacity) = true
-adds_elements_alone (SetTransform id transform) = true
-adds_elements_alone (AddTimeline id origin) = false
-adds_elements_alone (AddModel model) = false
-adds_elements_alone (RemoveModel id) = true
+adds_elements_alone (OnElements change) = true
+adds_elements_alone (OnTimelines change) = false
+adds_elements_alone (OnModels (AddModel model)) = false
+adds_elements_alone (OnModels (RemoveModel id)) = true
 
 -- The host has the same commits, as many models and the news of the same marks behind it.
 pub record KeepsCommits (old new : Hosting) : Type 0 where

@@ -1,6 +1,6 @@
 //! Scripts of the compositor's steps: tick, and expect the news and what element 1 shows.
 
-ghost use Rattle.std.specs.Prelude.{◌≡◌, ◌≤◌, [], None, OnOk};
+ghost use Rattle.std.specs.Prelude.{◌≡◌, ◌≤◌, [], None};
 ghost use Rattle.tree_commit.specs.Trees.{empty_commit};
 ghost use Rattle.host_tests.specs.Steps.{KeepsCommits};
 
@@ -8,12 +8,14 @@ use crate::steps::{begin, only_commit, tick};
 use active_tree::ActiveTree;
 use anim_host::AnimHost;
 use anim_names::{AnimEvent, ElementId, GroupId, ModelId};
+use element_samples::Frame;
 use std::alloc::{AllocError, Global};
 use std::process::Abort;
 use std::sync::Arc;
 use std::test::Fail;
+use test_scripts::TWO_GROUPS;
 use transform_ops::{TransformList, TransformOp};
-use tree_commit::{Commit, Frame};
+use tree_commit::Commit;
 
 // ---- what is expected
 
@@ -88,8 +90,8 @@ fn expect_row(rt: &impl Abort, frame: &Frame, row: Row) {
     assert!(rt; frame.row_count() == 1);
     let drawn = frame.row(0);
     assert!(rt; drawn.element == ElementId(1));
-    assert!(rt; drawn.opacity.get() == row.0);
-    expect_list(rt, &drawn.transform, row.1);
+    assert!(rt; drawn.shown.opacity.get() == row.0);
+    expect_list(rt, &drawn.shown.transform, row.1);
 }
 
 // ---- ticks
@@ -179,33 +181,6 @@ fn of_two_groups_on_one_property_the_first_starts_alone(rt: HostRuntime) -> Resu
     let ticks = [Ticked(0, &[Told::Started(1, 1, 0, 0)], Some(Row(0, None)))];
     expect_script(&rt, rt.alloc(), TWO_FADES, &ticks)
 }
-
-// A group of two models, and one that waits for it.
-pub const TWO_GROUPS: &str = "anim 1
-main
-timeline 1 0
-element 1 1000000 none
-model 1 1 1 1 opacity - 0 1000 0 normal none 1000 auto linear 2
-key 0 linear 0
-key 1000 linear 1000000
-model 2 1 1 1 transform - 0 1000 0 normal none 1000 auto linear 2
-key 0 linear translate:0:0:0
-key 3000 linear translate:3000:0:0
-model 3 2 1 1 opacity - 0 1000 0 normal none 1000 auto linear 2
-key 0 linear 500000
-key 1000 linear 0
-commit
-compositor
-pull
-activate
-tick 0
-tick 1000
-tick 2000
-tick 3000
-tick 4000
-word MMMMMMCCCCCCC
-end
-";
 
 // Group 1 is done with its longer model, and then group 2 starts.
 #[test]

@@ -7,11 +7,12 @@ use crate::steps::{only_commit, push_first};
 use anim_host::AnimHost;
 use anim_names::{AnimEvent, GroupId, ModelId};
 use anim_timeline::LAST_TIME;
+use element_samples::StartTable;
 use std::alloc::{AllocError, Global};
 use std::process::Abort;
 use std::sync::Arc;
 use std::test::Fail;
-use tree_commit::{Commit, Shown, StartTable};
+use tree_commit::{Commit, Shown};
 
 // ---- scripts
 

@@ -1,8 +1,8 @@
 //! The first two commits of a script, and the pull of the second.
 
 ghost use Rattle.std.specs.Prelude.{◌≡◌, ◌≤◌, All, None, IfOk, IsTrue, OnOk, OnErr, length};
-ghost use Rattle.anim_host.specs.Hosting.{after_push};
-ghost use Rattle.tree_commit.specs.Runs.{model_of_event};
+ghost use Rattle.anim_host.specs.Hosting.{hosting_after_push};
+ghost use Rattle.run_rules.specs.Runs.{model_of_event};
 ghost use Rattle.tree_commit.specs.Trees.{has_model};
 ghost use Rattle.tree_commit.specs.Views.{change_of};
 ghost use Rattle.host_tests.specs.Steps.{OnlyElementsAreNew, adds_elements_alone};
@@ -11,12 +11,13 @@ use crate::steps::{expect_groups, make_edits, next_commit};
 use anim_host::AnimHost;
 use anim_names::{AnimEvent, ModelId};
 use main_tree::MainTree;
+use run_rules::MainStep;
 use script_reader::read_script;
 use std::alloc::{AllocError, Global};
 use std::process::Abort;
 use std::sync::Arc;
 use std::test::Fail;
-use tree_commit::{Commit, Edit, MainStep};
+use tree_commit::{Commit, Edit};
 
 // ---- commits
 
@@ -95,7 +96,7 @@ pub fn push_next(
     requires few { OnlyElementsAreNew active.now.tree commit.now.value.tree }
     requires told { host.old.cleared ≡ 0 }
     requires models { length active.now.tree.models ≤ host.old.models }
-    ensures ok { OnOk result (host.new ≡ after_push host.old commit.now.value) }
+    ensures ok { OnOk result (host.new ≡ hosting_after_push host.old commit.now.value) }
     ensures err { OnErr result (host.new ≡ host.old) }
 {
     let _kept = active.model_count();

@@ -1,7 +1,7 @@
 //! Types that threads may share. The check of the types is the test.
 
 use anim_host::AnimHost;
-use host_tables::{GroupTable, MarkList, RowTable, Shape};
+use host_tables::{CommitGroups, GroupTable, MarkList, RowTable};
 
 fn is_shared<T: Send + Sync>() {}
 
@@ -10,6 +10,6 @@ fn the_host_and_its_tables_are_shared() {
     is_shared::<AnimHost>();
     is_shared::<RowTable>();
     is_shared::<GroupTable>();
-    is_shared::<Shape>();
+    is_shared::<CommitGroups>();
     is_shared::<MarkList>();
 }

@@ -1,15 +1,15 @@
 //! Steps of the compositor's host and of an active tree beside it, over commits of scripts.
 
 ghost use Rattle.std.specs.Prelude.{◌≡◌, ◌≤◌, ◌-ℤ◌, ℕ, [], None, Some, IfSome, IfOk, IsTrue, OnOk, length, slice_get, unsigned_abs};
-ghost use Rattle.anim_host.specs.Hosting.{after_activation, shown_in};
+ghost use Rattle.anim_host.specs.Hosting.{hosting_after_activation, shown_in};
 ghost use Rattle.anim_timeline.specs.Timelines.{IsTime};
 ghost use Rattle.anim_timeline.specs.declared.TheConstants.{LAST_TIME};
 ghost use Rattle.easing_fixed.specs.Evaluators.{MayEase, Eases};
 ghost use Rattle.tree_commit.specs.Tables.{has_timeline};
 ghost use Rattle.keyframe_model.specs.Models.{Spec};
 ghost use Rattle.micro_time.specs.declared.TheConstants.{LARGEST_LOCAL};
-ghost use Rattle.tree_commit.specs.Follows.{AgreeAsGroup};
-ghost use Rattle.tree_commit.specs.Frames.{LocalTimesFit};
+ghost use Rattle.run_rules.specs.Follows.{AgreeAsGroup};
+ghost use Rattle.run_rules.specs.Frames.{LocalTimesFit};
 ghost use Rattle.tree_commit.specs.Trees.{empty_commit, local_time};
 ghost use Rattle.host_tests.specs.Steps.{GroupsAgree, KeepsCommits};
 
@@ -18,15 +18,17 @@ use anim_host::AnimHost;
 use anim_names::limit::MOST_COMMITS;
 use anim_timeline::LAST_TIME;
 use easing_fixed::{Easing, EasingFunction, Evaluator};
+use element_samples::{Frame, StartTable};
 use keyframe_model::ModelSpec;
 use main_tree::MainTree;
 use micro_time::LARGEST_LOCAL;
+use run_rules::MainStep;
 use script_reader::read_script;
 use std::alloc::{AllocError, Global};
 use std::process::Abort;
 use std::sync::Arc;
 use std::test::Fail;
-use tree_commit::{Commit, Frame, MainStep, StartTable};
+use tree_commit::{Commit, Shown};
 
 // ---- commits
 
@@ -135,7 +137,7 @@ pub fn begin(
 pub fn activate(host: &mut AnimHost, active: &mut ActiveTree, commit: Arc<Commit>)
     requires drawn { active.old ≡ host.old.active }
     requires pending { host.old.pending ≡ Some commit.value }
-    ensures host { host.new ≡ after_activation host.old commit.value }
+    ensures host { host.new ≡ hosting_after_activation host.old commit.value }
     ensures active { active.new ≡ commit.value }
 {
     host.activate(active.commit(), &commit);
@@ -203,21 +205,21 @@ fn expect_local(rt: &impl Abort, commit: &Commit, model: &ModelSpec, host: &Anim
     requires timeline_there { IsTrue (has_timeline commit.now.tree model.now.timeline) }
     requires in_time { IsTime time }
     ensures { IfSome (shown_in host.now model.now.id)
-        (λ s. unsigned_abs (local_time commit.now.tree time model.now s.start) ≤ LARGEST_LOCAL) }
+        (λ s. unsigned_abs (local_time commit.now.tree time model.now s) ≤ LARGEST_LOCAL) }
 {
     if let Some(shown) = host.shown(model.id()) {
-        let local = local_time(rt, commit, model, time, shown.start);
+        let local = local_time(rt, commit, model, time, shown);
         assert!(rt; local.unsigned_abs() <= LARGEST_LOCAL);
     }
 }
 
-fn local_time(rt: &impl Abort, commit: &Commit, model: &ModelSpec, time: u64, start: i64) -> i64
+fn local_time(rt: &impl Abort, commit: &Commit, model: &ModelSpec, time: u64, shown: Shown) -> i64
     requires timeline_there { IsTrue (has_timeline commit.now.tree model.now.timeline) }
     requires in_time { IsTime time }
-    ensures { result ≡ local_time commit.now.tree time model.now start }
+    ensures { result ≡ local_time commit.now.tree time model.now shown }
 {
     let timeline = commit.timeline(model.timeline()).unwrap();
-    since(rt, timeline.time_of(time), start)
+    since(rt, timeline.time_of(time), shown.start)
 }
 
 fn since(rt: &impl Abort, time: i64, start: i64) -> i64

@@ -3,7 +3,6 @@
 ghost use Rattle.std.specs.Prelude.{◌≡◌, ◌≤◌, [], None};
 ghost use Rattle.tree_commit.specs.Trees.{empty_commit};
 
-use crate::frames::TWO_GROUPS;
 use crate::steps::{begin, only_commit, tick};
 use active_tree::ActiveTree;
 use anim_host::AnimHost;
@@ -12,6 +11,7 @@ use std::alloc::AllocError;
 use std::process::Abort;
 use std::sync::Arc;
 use std::test::Fail;
+use test_scripts::TWO_GROUPS;
 use tree_commit::Commit;
 
 /// What is said of element 1.

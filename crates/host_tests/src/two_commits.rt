@@ -1,7 +1,7 @@
 //! Scripts of two commits: pull, activate, tick, and expect the news and what element 1 shows.
 
 ghost use Rattle.std.specs.Prelude.{◌≡◌, ◌≤◌, None, Some, OnOk};
-ghost use Rattle.anim_host.specs.Hosting.{after_push, new_hosting};
+ghost use Rattle.anim_host.specs.Hosting.{hosting_after_push, new_hosting};
 ghost use Rattle.tree_commit.specs.Trees.{empty_commit};
 ghost use Rattle.host_tests.specs.Steps.{OnlyElementsAreNew};
 
@@ -15,6 +15,7 @@ use std::alloc::{AllocError, Global};
 use std::process::Abort;
 use std::sync::Arc;
 use std::test::Fail;
+use test_scripts::{DROPPED_ELEMENT, DROPPED_MODEL, LATE_ELEMENT};
 use tree_commit::Commit;
 
 // ---- steps
@@ -31,7 +32,7 @@ fn expect_pull(
     requires few { OnlyElementsAreNew active.now.tree commit.now.value.tree }
     requires cleared { host.old.cleared ≡ 0 }
     requires models { 4 ≤ host.old.models }
-    ensures { OnOk result (host.new ≡ after_push host.old commit.now.value) }
+    ensures { OnOk result (host.new ≡ hosting_after_push host.old commit.now.value) }
 {
     let before = host.news().len();
     assert!(rt; active.commit().model_count() <= 4);
@@ -88,30 +89,6 @@ const BOTH: Said = Said {
 
 // ---- an element that comes
 
-// The element of two models comes with the second commit.
-const LATE_ELEMENT: &str = "anim 1
-main
-timeline 1 0
-model 1 1 1 1 opacity - 0 1000 0 normal none 1000 auto linear 2
-key 0 linear 250000
-key 1000 linear 1000000
-model 2 1 1 1 transform - 0 1000 0 normal none 1000 auto linear 2
-key 0 linear translate:5:0:0
-key 1000 linear translate:9:0:0
-commit
-element 1 1000000 none
-commit
-compositor
-pull
-activate
-tick 1000
-pull
-activate
-tick 2000
-word MMMMCCCMMCCC
-end
-";
-
 #[test]
 fn a_group_starts_once_its_element_is_there(rt: HostRuntime) -> Result<(), Fail> {
     let (first, second) = first_two(&rt, rt.alloc(), LATE_ELEMENT)?;
@@ -164,29 +141,7 @@ fn expect_late_element(
 
 // ---- what goes
 
-// An element goes while its model waits.
-const DROPPED_ELEMENT: &str = "anim 1
-main
-timeline 1 0
-element 1 1000000 none
-model 1 1 1 1 opacity - 0 1000 0 normal none 1000 auto linear 2
-key 0 linear 0
-key 1000000 linear 1000000
-commit
-drop-element 1
-commit
-compositor
-pull
-activate
-pull
-tick 1000
-activate
-tick 2000
-word MMMMCCMMCCCC
-end
-";
-
-// An element that is gone from the pending commit holds its group back. A model that waits is not aborted.
+// An element that is gone from the pending commit keeps its group back. A model that waits is not aborted.
 #[test]
 fn a_group_waits_for_the_pending_commit_too(rt: HostRuntime) -> Result<(), Fail> {
     let ticks = [
@@ -196,28 +151,6 @@ fn a_group_waits_for_the_pending_commit_too(rt: HostRuntime) -> Result<(), Fail>
     let said = [ACTIVE, ACTIVE, NOWHERE, NOWHERE];
     expect_script(&rt, rt.alloc(), DROPPED_ELEMENT, ticks, &[], said)
 }
-
-// A model goes while it runs.
-const DROPPED_MODEL: &str = "anim 1
-main
-timeline 1 0
-element 1 1000000 none
-model 1 1 1 1 opacity - 0 1000 0 normal none 1000 auto linear 2
-key 0 linear 0
-key 1000000 linear 1000000
-commit
-drop-model 1
-commit
-compositor
-pull
-activate
-pull
-tick 1000
-activate
-tick 2000
-word MMMMCCMMCCCC
-end
-";
 
 // A model that is gone from the pending commit starts all the same, and is aborted once that commit is active.
 #[test]

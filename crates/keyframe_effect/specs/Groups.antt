@@ -1,8 +1,8 @@
 -- What becomes of a group's row: as the first model of the group is found, as one more is, and as one of them goes from
 -- one state to another.
-use Rattle.std.specs.Prelude.{ℕ, ◌+◌, ◌-◌, ◌≤◌, Bool, ◌||◌, if◌then◌else◌}
-use Rattle.anim_names.specs.declared.property.Property.TheVariants.{Opacity, Transform}
-use Rattle.keyframe_model.specs.Models.{Spec, property_of, same_property}
+use Rattle.std.specs.Prelude.{ℕ, ◌+◌, ◌-◌, ◌≤◌, Bool, true, false, if◌then◌else◌}
+use Rattle.anim_names.specs.Properties.{every, put}
+use Rattle.keyframe_model.specs.Models.{Spec, property_of}
 use Rattle.keyframe_effect.specs.declared.group.GroupRow.{GroupRow}
 use Rattle.keyframe_effect.specs.declared.state.RunState.{RunState}
 use Rattle.keyframe_effect.specs.States.{is_unfinished, is_waiting}
@@ -18,8 +18,7 @@ first_row model state = record {
   element = model.element;
   waiting = one_if (is_waiting state);
   unfinished = one_if (is_unfinished state);
-  opacity = same_property Opacity (property_of model);
-  transform = same_property Transform (property_of model);
+  animates = put (every false) (property_of model) true;
 }
 
 -- the row with one more model, in this state
@@ -27,8 +26,7 @@ abbrev pub row_with : Spec → RunState → GroupRow → GroupRow
 row_with model state row = record row {
   waiting = row.waiting + one_if (is_waiting state);
   unfinished = row.unfinished + one_if (is_unfinished state);
-  opacity = row.opacity || same_property Opacity (property_of model);
-  transform = row.transform || same_property Transform (property_of model);
+  animates = put row.animates (property_of model) true;
 }
 
 -- a count of models that are so, as one of them was so or not and is so or not

@@ -1,9 +1,12 @@
+//! The row of a group: how many of its models wait and run, which properties they animate, and whether the group may
+//! start by the table of elements.
+
 ghost use Rattle.std.specs.Prelude.{◌≡◌, ◌+◌, ◌≤◌, ◌<◌};
 ghost use Rattle.keyframe_effect.specs.Groups.{CanMove, first_row, moved, moved_count, row_with, one_if};
-ghost use Rattle.keyframe_effect.specs.Ready.{is_blocked_for, is_ready, is_there};
+ghost use Rattle.keyframe_effect.specs.Ready.{is_blocked_for, is_ready, is_some_blocked, is_there};
 
 use crate::RunState;
-use anim_names::{ElementId, GroupId, Property, Tree};
+use anim_names::{ElementId, GroupId, PROPERTIES, PerProperty, Property, Tree};
 use element_anims::ElementAnims;
 use keyframe_model::ModelSpec;
 
@@ -18,10 +21,8 @@ pub struct GroupRow {
     pub waiting: usize,
     /// How many of them have started and not ended.
     pub unfinished: usize,
-    /// Whether one of them is of the opacity.
-    pub opacity: bool,
-    /// Whether one of them is of the transform.
-    pub transform: bool,
+    /// Whether one of them animates the property.
+    pub animates: PerProperty<bool>,
 }
 
 impl GroupRow {
@@ -29,14 +30,12 @@ impl GroupRow {
     pub fn of(model: &ModelSpec, state: RunState) -> GroupRow
         ensures { result ≡ first_row model.now state }
     {
-        let property = model.property();
         GroupRow {
             group: model.group(),
             element: model.element(),
             waiting: usize::from(state.is_waiting()),
             unfinished: usize::from(state.is_unfinished()),
-            opacity: property == Property::Opacity,
-            transform: property == Property::Transform,
+            animates: PerProperty::every(false).with(model.property(), true),
         }
     }
 
@@ -46,12 +45,10 @@ impl GroupRow {
         requires unfinished { self.unfinished < usize.MAX }
         ensures { result ≡ row_with model.now state self }
     {
-        let property = model.property();
         GroupRow {
             waiting: self.waiting + usize::from(state.is_waiting()),
             unfinished: self.unfinished + usize::from(state.is_unfinished()),
-            opacity: self.opacity || property == Property::Opacity,
-            transform: self.transform || property == Property::Transform,
+            animates: self.animates.with(model.property(), true),
             ..self
         }
     }
@@ -72,24 +69,29 @@ impl GroupRow {
         }
     }
 
-    /// Whether the group may start in this tick, by the table of both trees. `pending_holds` says whether a pending
+    /// Whether the group may start in this tick, by the table of both trees. `pending_has` says whether a pending
     /// commit stands and has a model of the group.
     #[tactic(auto, unfolding(crate::specs::Ready::is_ready))]
-    pub fn ready(&self, table: &ElementAnims, pending_holds: bool) -> bool
-        ensures { result ≡ is_ready self.now table.now pending_holds }
+    pub fn ready(&self, table: &ElementAnims, pending_has: bool) -> bool
+        ensures { result ≡ is_ready self.now table.now pending_has }
     {
-        self.waiting > 0
-            && self.is_there(table, pending_holds)
-            && !(self.opacity && self.is_blocked(table, Property::Opacity))
-            && !(self.transform && self.is_blocked(table, Property::Transform))
+        self.waiting > 0 && self.is_there(table, pending_has) && !self.is_some_blocked(table)
     }
 
     // The element is in the active tree and, where it is asked for, in the pending one.
-    fn is_there(&self, table: &ElementAnims, pending_holds: bool) -> bool
-        ensures { result ≡ is_there table.now self.now.element pending_holds }
+    fn is_there(&self, table: &ElementAnims, pending_has: bool) -> bool
+        ensures { result ≡ is_there table.now self.now.element pending_has }
     {
         table.present(Tree::Active, self.element)
-            && (!pending_holds || table.present(Tree::Pending, self.element))
+            && (!pending_has || table.present(Tree::Pending, self.element))
+    }
+
+    // Another group blocks a property that the models of the group animate.
+    fn is_some_blocked(&self, table: &ElementAnims) -> bool
+        ensures { result ≡ is_some_blocked self.now table.now }
+    {
+        PROPERTIES.iter().any(|property| self.animates.at(*property)
+            && self.is_blocked(table, *property))
     }
 
     // Another group blocks the property of the element.

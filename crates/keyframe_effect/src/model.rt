@@ -1,3 +1,6 @@
+//! The row of a keyframe model: its id, its state, and which of the two commits have it. When it changes is the
+//! host's matter.
+
 ghost use Rattle.std.specs.Prelude.{◌≡◌};
 ghost use Rattle.keyframe_effect.specs.States.{after_done, after_finish, after_start, is_ended};
 

@@ -1,3 +1,6 @@
+//! The states of a keyframe model from waiting to its end, and the state that follows after a start, a finish or an
+//! abort.
+
 ghost use Rattle.std.specs.Prelude.{◌≡◌};
 ghost use Rattle.keyframe_effect.specs.States.{after_done, after_finish, after_start, is_ended, is_unfinished, is_waiting};
 

@@ -1,5 +1,5 @@
 -- Keyframe models as plain data: what a model animates, when and how, and which value it has at a local time.
-use Rattle.std.specs.Prelude.{◌≡◌, ℕ, ◌<◌, ◌≤◌, ◌^◌, Bool, true, false, ℤ, List, Option, IfSome, option_map, option_and_then}
+use Rattle.std.specs.Prelude.{◌≡◌, ℕ, ◌<◌, ◌≤◌, ◌^◌, ℤ, List, Option, IfSome, option_map, option_and_then}
 use Rattle.anim_names.specs.declared.property.Property.{Property}
 use Rattle.anim_names.specs.declared.property.Property.TheVariants.{Opacity, Transform}
 use Rattle.anim_timeline.specs.declared.TheConstants.{LAST_TIME}
@@ -34,11 +34,15 @@ abbrev pub value_on : PropertyCurve → ℕ → Option PropertyValue
 value_on (OpacityCurve curve) time = option_map OpacityValue (curve_value blend_opacity curve time)
 value_on (TransformCurve curve) time = option_map TransformValue (curve_value blend_lists curve time)
 
--- the two are one property: a line for each property, and no other two are
-abbrev pub same_property : Property → Property → Bool
-same_property Opacity Opacity = true
-same_property Transform Transform = true
-same_property _ _ = false
+-- the property of which this is a value
+abbrev pub property_of_value : PropertyValue → Property
+property_of_value (OpacityValue opacity) = Opacity
+property_of_value (TransformValue transform) = Transform
+
+-- what may be a value of its property
+abbrev pub IsPropertyValue : PropertyValue → Type 0
+IsPropertyValue (OpacityValue opacity) = IsOpacity opacity
+IsPropertyValue (TransformValue transform) = IsList transform
 
 -- what may be a curve of its property
 abbrev pub IsPropertyCurve : PropertyCurve → Type 0

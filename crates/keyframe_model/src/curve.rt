@@ -1,3 +1,5 @@
+//! A curve of one property, whichever it is, and a value of one: a case for each property that a model can animate.
+
 ghost use Rattle.std.specs.Prelude.{◌≡◌, ◌≤◌, Some, IfOk, IsOk};
 ghost use Rattle.keyframe_model.specs.Models.{property_of_curve, IsPropertyCurve, curve_duration, value_on};
 ghost use Rattle.keyframe_model.specs.Views.{curve_of, value_of};

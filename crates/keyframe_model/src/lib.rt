@@ -6,7 +6,9 @@
 
 pub mod curve;
 pub mod model;
+pub mod shared_value;
 pub mod worked;
 
 pub use curve::{CurveOf, Value};
 pub use model::ModelSpec;
+pub use shared_value::SharedValue;

@@ -1,3 +1,6 @@
+//! Keyframe models as a script makes them: names, timing, policy and a curve, none of which ever changes. Whether a
+//! model runs is known elsewhere.
+
 ghost use Rattle.std.specs.Prelude.{◌≡◌, ◌≤◌, ◌↔◌, unsigned_abs, IfSome, IfOk, IsNone, IsOk, None, option_map};
 ghost use Rattle.anim_timeline.specs.declared.TheConstants.{LAST_TIME};
 ghost use Rattle.micro_time.specs.declared.TheConstants.{LARGEST_LOCAL};

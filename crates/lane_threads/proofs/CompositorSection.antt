@@ -1,6 +1,6 @@
 -- A section of the lock in which the compositor makes its next step: what is kept behind the lock after it, and what the
 -- compositor knows.
-use Rattle.std.proofs.Common.{◌≡◌, ℕ, ◌+◌, ◌-◌, ◌*◌, ◌<◌, ◌≤◌, List, [], ◌∷◌, ◌++◌, drop, length, refl, sym, ap, ◌∙◌, subst, arith}
+use Rattle.std.proofs.Common.{◌≡◌, ℕ, ◌+◌, ◌-◌, ◌<◌, ◌≤◌, List, [], ◌∷◌, ◌++◌, drop, length, refl, sym, ap, ◌∙◌, subst, arith}
 use Rattle.std.proofs.lemmas.List.{length-map}
 use Rattle.anim_names.specs.declared.entry.Entry.{Entry}
 use Rattle.anim_names.specs.declared.event.AnimEvent.{AnimEvent}
@@ -12,13 +12,14 @@ use Rattle.commit_lock.specs.Seats.{SeatState, seat_after}
 use Rattle.frame_exchange.specs.Journals.{Exchange, filled, pull_entry, send_entry, word_so_far}
 use Rattle.frame_exchange.specs.Sides.{CompositorState, compositor_after_activation, compositor_after_tick, news_of, slot_of}
 use Rattle.frame_script.specs.Printing.{script_text}
-use Rattle.tree_commit.specs.declared.runs.compositor_step.CompositorStep.{CompositorStep}
-use Rattle.tree_commit.specs.declared.runs.compositor_step.CompositorStep.TheVariants.{Pull, Activate, Tick}
-use Rattle.tree_commit.specs.Frames.{DrawnFrame}
-use Rattle.tree_commit.specs.Marks.{event_of}
-use Rattle.tree_commit.specs.Runs.{compositor_step}
-use Rattle.word_machine.specs.Courses.{Course, board_of, course_after, course_of, marks_of_step}
-use Rattle.word_machine.specs.Moments.{model_count}
+use Rattle.run_rules.specs.declared.compositor_step.CompositorStep.{CompositorStep}
+use Rattle.run_rules.specs.declared.compositor_step.CompositorStep.TheVariants.{Pull, Activate, Tick}
+use Rattle.run_rules.specs.Frames.{DrawnFrame}
+use Rattle.run_rules.specs.Marks.{event_of}
+use Rattle.run_rules.specs.Runs.{compositor_step}
+use Rattle.run_rules.specs.Scripts.{event_room}
+use Rattle.run_laws.specs.Steps.{marks_of_step}
+use Rattle.word_machine.specs.Courses.{Course, board_of, course_after, course_of}
 use Rattle.word_machine.specs.Turns.{MayMakeCompositor, board_after_compositor, board_with_news, compositor_turned, frames_with}
 use Rattle.word_machine.proofs.CompositorTurns.{board-turned_compositor, event_room_after, room_after_compositor}
 use Rattle.word_machine.proofs.Moments.{events-left, new-marks}
@@ -83,7 +84,7 @@ module _ (shared : ScriptBoard) (kept : IsKeptBehindLock shared) (silent : ℕ) 
   board-ahead : shared.board ≡ board_of ahead shared.board.room shared.board.queue.room
   board-ahead = kept.of_board ∙ sym (h.quiet shared.board.room shared.board.queue.room)
 
-  for-events_ahead : 2 * model_count shared.script ≤ shared.board.queue.room + length ahead.lanes.compositor.marks
+  for-events_ahead : event_room shared.script ≤ shared.board.queue.room + length ahead.lanes.compositor.marks
   for-events_ahead = omega (arith, marks-same, kept.for_events)
 
   pub compositor-may_here : MayMakeCompositor step compositor shared.board
@@ -136,7 +137,7 @@ module _ (shared : ScriptBoard) (kept : IsKeptBehindLock shared) (silent : ℕ) 
         let room_is = ap (λ (b : Exchange). b.room) made ∙ (noted step compositor shared.board one).room in
         let event_room_is = ap (λ (b : Exchange). b.queue.room) board-after in
         let events = events-left step ahead.lanes.compositor shared.board.queue.room (length ahead.lanes.compositor.marks)
-        (length (course_of shared.script (word_so_far after.entries)).lanes.compositor.marks) (2 * model_count shared.script) marks-more for-events_ahead in
+        (length (course_of shared.script (word_so_far after.entries)).lanes.compositor.marks) (event_room shared.script) marks-more for-events_ahead in
         record {
           well = kept.well;
           of_board = board-is after (course_of shared.script (word_so_far after.entries)) (room_after_compositor step ahead.lanes.compositor shared.board.room) (event_room_after step ahead.lanes.compositor shared.board.queue.room) board-after;

@@ -1,7 +1,7 @@
 -- From what the compositor knows to a section and back: what it may do there, and what it knows after it.
-use Rattle.std.proofs.Common.{◌≡◌, ℕ, ◌+◌, ◌*◌, ◌<◌, ◌≤◌, nat_lt, Bool, true, false, not, ◌||◌, ◌==◌, cond, List, [], length, Option, Some, None, refl, sym, ap, ◌∙◌, subst, arith}
+use Rattle.std.proofs.Common.{◌≡◌, ℕ, ◌+◌, ◌<◌, ◌≤◌, nat_lt, Bool, true, false, not, ◌||◌, ◌==◌, cond, List, [], length, Option, Some, None, refl, sym, ap, ◌∙◌, subst, arith}
 use Rattle.std.specs.Prelude.{IsSomeAnd, is_some}
-use Rattle.std.proofs.lemmas.Bool.{ltb-false}
+use Rattle.std.proofs.lemmas.Bool.{ltb-false, not-true}
 use Rattle.std.proofs.lemmas.List.{length-append}
 use Rattle.anim_names.specs.declared.lane.Lane.TheVariants.{Main, Compositor}
 use Rattle.anim_names.specs.Lists.{BeginsWith}
@@ -9,14 +9,13 @@ use Rattle.commit_lock.specs.Journals.{entries_of}
 use Rattle.commit_lock.specs.Seats.{SeatState, seat_after}
 use Rattle.frame_exchange.specs.Journals.{finds_nothing, is_taken, last_pulled, published, reply_to_pull, word_so_far}
 use Rattle.frame_exchange.specs.Sides.{CompositorState, activated, compositor_after_pull, compositor_after_send, news_of, slot_of}
-use Rattle.tree_commit.specs.declared.runs.compositor_step.CompositorStep.{CompositorStep}
-use Rattle.tree_commit.specs.declared.runs.compositor_step.CompositorStep.TheVariants.{Pull, Activate, Tick}
-use Rattle.tree_commit.specs.Frames.{DrawnFrame}
-use Rattle.tree_commit.specs.Marks.{marks_of_activation, marks_of_tick}
-use Rattle.tree_commit.specs.Scripts.{IsWellFormed, ScriptLists}
+use Rattle.run_rules.specs.declared.compositor_step.CompositorStep.{CompositorStep}
+use Rattle.run_rules.specs.declared.compositor_step.CompositorStep.TheVariants.{Pull, Tick}
+use Rattle.run_rules.specs.Frames.{DrawnFrame}
+use Rattle.run_rules.specs.Marks.{marks_of_activation, marks_of_tick}
+use Rattle.run_rules.specs.Scripts.{IsWellFormed, ScriptLists, event_room}
 use Rattle.tree_commit.specs.Trees.{Committed}
 use Rattle.word_machine.specs.Courses.{board_of, course_of}
-use Rattle.word_machine.specs.Moments.{model_count}
 use Rattle.word_machine.specs.Turns.{AllowsStep, MayMakeCompositor, MayPlace, MayTick, board_after_compositor, board_told, compositor_with_reply}
 use Rattle.lane_threads.specs.Keeping.{IsKeptBehindLock, ScriptBoard}
 use Rattle.lane_threads.specs.Knowing.{IsNextOfCompositor, KnowsCompositor, marked, with_letters}
@@ -24,27 +23,27 @@ use Rattle.lane_threads.specs.Sections.{HasMarked, HasPulled, MayMark, MayPull, 
 use Rattle.lane_threads.proofs.CompositorLane.{compositor-found, compositor-may, knows-quiet, marked-turned, no-news}
 use Rattle.lane_threads.proofs.CompositorSection.{compositor-may_here, knows-compositor_after}
 use Rattle.lane_threads.proofs.Sections.{sent-is, sent-one}
+use Rattle.run_laws.proofs.CompositorSteps.{by_mark}
 
 -- ---- outside
 
 -- The compositor may make the step that it knows to be next.
-pub known-may : (script : ScriptLists) → IsWellFormed script → (seat : SeatState) (compositor : CompositorState) (frames : List DrawnFrame) (step : CompositorStep) → (h : KnowsCompositor script seat compositor frames) → IsNextOfCompositor script compositor.steps step → MayMakeCompositor step compositor (board_of (course_of script (with_letters Compositor h.silent (with_letters Main 0 (word_so_far seat.seen)))) 1 (2 * model_count script))
+pub known-may : (script : ScriptLists) → IsWellFormed script → (seat : SeatState) (compositor : CompositorState) (frames : List DrawnFrame) (step : CompositorStep) → (h : KnowsCompositor script seat compositor frames) → IsNextOfCompositor script compositor.steps step → MayMakeCompositor step compositor (board_of (course_of script (with_letters Compositor h.silent (with_letters Main 0 (word_so_far seat.seen)))) 1 (event_room script))
 known-may script well seat compositor frames step h next =
-    compositor-may script well (with_letters Compositor h.silent (with_letters Main 0 (word_so_far seat.seen))) compositor frames step 1 (2 * model_count script) (h.ahead 0).at next (omega arith) (omega arith)
+    compositor-may script well (with_letters Compositor h.silent (with_letters Main 0 (word_so_far seat.seen))) compositor frames step 1 (event_room script) (h.ahead 0).at next (omega arith) (omega arith)
 
 pub known-tick : (script : ScriptLists) → IsWellFormed script → (seat : SeatState) (compositor : CompositorState) (frames : List DrawnFrame) (time : ℕ) → KnowsCompositor script seat compositor frames → IsNextOfCompositor script compositor.steps (Tick time) → MayTick compositor time
 known-tick script well seat compositor frames time h next = (known-may script well seat compositor frames (Tick time) h next).allows.0
 
 -- what is sent when marks are made
 marks-grow : (step : CompositorStep) (before : CompositorState) → MayMark step → ((marked step before).sent ≡ before.sent) × (length before.marks ≤ length (marked step before).marks)
-marks-grow Pull before may = absurd may
-marks-grow Activate before may = go before.pending
+marks-grow step before may =
+    by_mark (λ step. ((marked step before).sent ≡ before.sent) × (length before.marks ≤ length (marked step before).marks)) (go before.pending)
+    (λ time. (refl, omega (arith, length-append before.marks (marks_of_tick before.active.tree before.pending before.marks time)))) step may
   where
     go : (pending : Option Committed) → ((record (activated before pending) { steps = before.steps + 1 }).sent ≡ before.sent) × (length before.marks ≤ length (record (activated before pending) { steps = before.steps + 1 }).marks)
     go None = (refl, omega arith)
     go (Some pending) = (refl, omega (arith, length-append before.marks (marks_of_activation before.active.tree pending before.marks)))
-marks-grow (Tick time) before may =
-    (refl, omega (arith, length-append before.marks (marks_of_tick before.active.tree before.pending before.marks time)))
 
 -- A side that has made its marks and has no news knows what it knew, and of one step more.
 pub knows-no_news : (script : ScriptLists) → IsWellFormed script → (seat : SeatState) (compositor : CompositorState) (frames : List DrawnFrame) → HasMarked script seat compositor frames → nat_lt compositor.sent (length compositor.marks) ≡ false → KnowsCompositor script seat compositor frames
@@ -65,10 +64,6 @@ knows-no_news script well seat compositor frames h none =
     knows-quiet script seat h.before compositor h.earlier frames h.step h.knows h.next h.may_mark none_here (sent ∙ ap compositor_after_send h.is) h.drawn
 
 -- ---- what a pull finds
-
-not-true : (b : Bool) → not b ≡ true → b ≡ false
-not-true true e = cc
-not-true false e = refl
 
 some-is : (P : Committed → Type 0) (reply : Option Committed) → IsSomeAnd reply P → is_some reply ≡ true
 some-is P None h = absurd h

@@ -1,5 +1,5 @@
 -- Where both lanes have ended, their sides and the board are those of the run after the word of the journal.
-use Rattle.std.proofs.Common.{◌≡◌, ℕ, ◌+◌, ◌*◌, ◌≤◌, List, [], ◌∷◌, ◌++◌, drop, length, sym, ap, ◌∙◌, subst, arith, length-drop}
+use Rattle.std.proofs.Common.{◌≡◌, ℕ, ◌+◌, ◌≤◌, List, [], ◌∷◌, ◌++◌, drop, length, sym, ap, ◌∙◌, subst, arith, length-drop}
 use Rattle.std.proofs.lemmas.List.{length-map}
 use Rattle.anim_names.specs.declared.lane.Lane.{Lane}
 use Rattle.anim_names.specs.declared.lane.Lane.TheVariants.{Main, Compositor}
@@ -9,20 +9,18 @@ use Rattle.commit_lock.specs.Journals.{entries_of}
 use Rattle.commit_lock.specs.Seats.{SeatState}
 use Rattle.frame_exchange.specs.Journals.{Exchange, filled, word_of_journal, word_so_far}
 use Rattle.frame_exchange.specs.Sides.{CompositorState, MainState}
-use Rattle.tree_commit.specs.Frames.{DrawnFrame}
-use Rattle.tree_commit.specs.Marks.{event_of}
-use Rattle.anim_timeline.specs.declared.TheConstants.{LAST_TIME}
-use Rattle.tree_commit.specs.Follows.{IsAmong}
+use Rattle.run_rules.specs.Frames.{DrawnFrame}
+use Rattle.run_rules.specs.Marks.{event_of}
 use Rattle.anim_names.specs.declared.event.AnimEvent.{AnimEvent}
 use Rattle.event_queue.specs.Queues.{unheard}
-use Rattle.tree_commit.specs.Runs.{ReportLists, report_of}
+use Rattle.run_rules.specs.Runs.{ReportLists, report_of}
 use Rattle.word_machine.specs.Laws.{KeepsLaws}
 use Rattle.word_machine.proofs.Keeping.{keeps_laws}
 use Rattle.word_machine.proofs.Moments.{report-made}
-use Rattle.tree_commit.specs.Scripts.{IsWellFormed, IsWordOf, ScriptLists, are_allowed, are_at_most, never_fall_from, ticks_of}
-use Rattle.tree_commit.specs.declared.runs.compositor_step.CompositorStep.{CompositorStep}
+use Rattle.run_rules.specs.Scripts.{IsWellFormed, IsWordOf, ScriptLists, are_allowed, event_room}
+use Rattle.run_rules.specs.declared.compositor_step.CompositorStep.{CompositorStep}
 use Rattle.word_machine.specs.Courses.{board_of, course_of}
-use Rattle.word_machine.specs.Moments.{IsAt, model_count}
+use Rattle.word_machine.specs.Moments.{TicksAreLeft, IsAt}
 use Rattle.lane_threads.specs.Keeping.{IsKeptBehindLock, ScriptBoard, course_at}
 use Rattle.lane_threads.specs.Knowing.{HaveEnded, IsCompositorAhead, IsCompositorAt, IsMainAhead, IsMainAt, KnowsCompositor, KnowsMain, with_letters}
 use Rattle.lane_threads.proofs.CompositorLane.{compositor-ahead_of}
@@ -35,7 +33,7 @@ none-left : {A : Type 0} (xs : List A) (n : ℕ) → n ≡ length xs → length 
 none-left xs n is = omega (arith, length-drop n xs, is)
 
 -- sides and a board that are those of a run that has ended
-at-end : (script : ScriptLists) (word : List Lane) (main : MainState) (compositor : CompositorState) (board : Exchange) (counts : List ℕ) (frames : List DrawnFrame) → IsMainAt script word main counts → IsCompositorAt script word compositor frames → main.steps ≡ length script.main → compositor.steps ≡ length script.compositor → board ≡ board_of (course_of script word) board.room board.queue.room → 2 * model_count script ≤ board.queue.room + length (course_of script word).lanes.compositor.marks → IsAt script word main compositor board counts frames
+at-end : (script : ScriptLists) (word : List Lane) (main : MainState) (compositor : CompositorState) (board : Exchange) (counts : List ℕ) (frames : List DrawnFrame) → IsMainAt script word main counts → IsCompositorAt script word compositor frames → main.steps ≡ length script.main → compositor.steps ≡ length script.compositor → board ≡ board_of (course_of script word) board.room board.queue.room → event_room script ≤ board.queue.room + length (course_of script word).lanes.compositor.marks → IsAt script word main compositor board counts frames
 at-end script word main compositor board counts frames m c main_all compositor_all is_board events =
     let course = course_of script word in
     let main_left : length course.lanes.main.left ≡ 0 = ap length m.of_left ∙ none-left script.main main.steps main_all in
@@ -51,9 +49,7 @@ at-end script word main compositor board counts frames m c main_all compositor_a
         allowed = ap (are_allowed main.book) m.of_left ∙ m.allowed;
         main_steps = omega (arith, main_left, main_all, ap (λ (s : MainState). s.steps) m.of_main);
         compositor_steps = omega (arith, compositor_left, compositor_all, ap (λ (s : CompositorState). s.steps) c.of_compositor);
-        order = ap (λ (l : List CompositorStep). never_fall_from compositor.last_tick (ticks_of l)) c.of_left ∙ c.ticks.order;
-        times = ap (λ (l : List CompositorStep). are_at_most LAST_TIME (ticks_of l)) c.of_left ∙ c.ticks.times;
-        ticks = subst (λ (l : List CompositorStep). (tick : ℕ) → IsAmong tick (ticks_of l) → IsAmong tick (ticks_of script.compositor)) (sym c.of_left) c.ticks.ticks;
+        ticks = subst (λ (l : List CompositorStep). TicksAreLeft script l compositor.last_tick) (sym c.of_left) c.ticks;
       };
       rooms = record {
         for_entries = omega (arith, main_left, compositor_left);

@@ -2,7 +2,7 @@
 use Rattle.std.proofs.Common.{◌≡◌, ℕ, zero, suc, ◌+◌, List, refl, sym, ap, ◌∙◌, subst, add-one}
 use Rattle.anim_names.specs.declared.lane.Lane.{Lane}
 use Rattle.anim_names.specs.declared.lane.Lane.TheVariants.{Main, Compositor}
-use Rattle.tree_commit.specs.Scripts.{ScriptLists}
+use Rattle.run_rules.specs.Scripts.{ScriptLists}
 use Rattle.word_machine.specs.Courses.{Course, course_after, course_of}
 use Rattle.word_machine.proofs.Right.{course-append}
 use Rattle.lane_threads.specs.Knowing.{with_letters}

@@ -1,9 +1,10 @@
 -- Words with more letters of one lane, and the word of a journal that grows.
 use Rattle.std.proofs.Common.{◌≡◌, ℕ, ◌+◌, ◌-◌, ◌*◌, cond, true, false, List, [], ◌∷◌, ◌++◌, fold, ◌⊎◌, inl, inr, refl, sym, ap, ◌∙◌, append_assoc, arith}
 use Rattle.std.specs.Prelude.{replicate}
-use Rattle.std.proofs.lemmas.List.{append-nil, replicate-append-replicate}
+use Rattle.std.proofs.lemmas.List.{append-nil, replicate-append-replicate, append_cancel_left}
 use Rattle.std.proofs.lemmas.List.Folds.{sum_by-replicate}
 use Rattle.std.proofs.lemmas.List.Sums.{fold-append, sum_by-append}
+use Rattle.std.proofs.Math.Nat.{add-zero}
 use Rattle.anim_names.specs.declared.entry.Entry.{Entry}
 use Rattle.anim_names.specs.declared.lane.Lane.{Lane}
 use Rattle.anim_names.specs.declared.lane.Lane.TheVariants.{Main, Compositor}
@@ -11,8 +12,7 @@ use Rattle.anim_names.specs.Lanes.{is_lane, letters_of}
 use Rattle.anim_names.specs.Lists.{BeginsWith}
 use Rattle.commit_lock.specs.Journals.{entries_of}
 use Rattle.commit_lock.specs.Views.{other_lane}
-use Rattle.commit_lock.proofs.Lanes.{entries_of-append, one_of_two}
-use Rattle.std.proofs.lemmas.List.{append_cancel_left}
+use Rattle.commit_lock.proofs.Lanes.{entries_of-append, one_of_two, other_lane-is_not}
 use Rattle.frame_exchange.specs.Journals.{filled, word_so_far}
 use Rattle.lane_threads.specs.Knowing.{with_letters}
 
@@ -41,14 +41,11 @@ pub letters-other : (lane : Lane) (n : ℕ) (word : List Lane) → letters_of (o
 letters-other lane n word =
     sum_by-append (λ x. cond (is_lane (other_lane lane) x) 1 0) word (replicate n lane)
     ∙ (ap (λ k. letters_of (other_lane lane) word + k) (sum_by-replicate (λ x. cond (is_lane (other_lane lane) x) 1 0) n lane ∙ other lane)
-    ∙ plus-none (letters_of (other_lane lane) word))
+    ∙ add-zero (letters_of (other_lane lane) word))
   where
     other : (lane : Lane) → n * cond (is_lane (other_lane lane) lane) 1 0 ≡ 0
     other Main = omega arith
     other Compositor = omega arith
-
-    plus-none : (k : ℕ) → k + 0 ≡ k
-    plus-none k = omega arith
 
 -- ---- the word of a journal that grows
 
@@ -68,17 +65,13 @@ pub record GoesOn (lane : Lane) (word longer : List Lane) : Type 0 where
 abbrev along : List Lane → List Entry → List Lane
 along word entries = fold (λ word (e : Entry). filled e.lane e.upto word) word entries
 
-other-is_not : (lane : Lane) → is_lane (other_lane lane) lane ≡ false
-other-is_not Main = refl
-other-is_not Compositor = refl
-
 other-is : (lane : Lane) → is_lane (other_lane lane) (other_lane lane) ≡ true
 other-is Main = refl
 other-is Compositor = refl
 
 goes-on_one : (lane : Lane) (entry : Entry) (entries : List Entry) (word : List Lane) → entries_of (other_lane lane) (entry ∷ entries) ≡ [] → ((w : List Lane) → entries_of (other_lane lane) entries ≡ [] → GoesOn lane w (along w entries)) → (entry.lane ≡ lane) ⊎ (entry.lane ≡ other_lane lane) → GoesOn lane word (along word (entry ∷ entries))
 goes-on_one lane entry entries word none behind (inl is) =
-    let test : is_lane (other_lane lane) entry.lane ≡ false = ap (is_lane (other_lane lane)) is ∙ other-is_not lane in
+    let test : is_lane (other_lane lane) entry.lane ≡ false = ap (is_lane (other_lane lane)) is ∙ other_lane-is_not lane in
     let rest = sym (ap (λ b. cond b (entry ∷ entries_of (other_lane lane) entries) (entries_of (other_lane lane) entries)) test) ∙ none in
     let here : ℕ = entry.upto - letters_of lane word in
     let on = behind (with_letters lane here word) rest in

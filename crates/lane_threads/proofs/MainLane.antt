@@ -1,5 +1,6 @@
 -- Main's lane goes on by a step: ahead of the word of the journal, or in a section of the lock.
-use Rattle.std.proofs.Common.{◌≡◌, ℕ, ◌+◌, ◌-◌, ◌*◌, ◌<◌, ◌≤◌, List, [], ◌∷◌, ◌++◌, drop, length, refl, sym, ap, ◌∙◌, subst, arith, length-drop}
+use Rattle.std.proofs.Common.{◌≡◌, ℕ, ◌+◌, ◌-◌, ◌<◌, ◌≤◌, List, [], ◌∷◌, ◌++◌, drop, length, refl, sym, ap, ◌∙◌, subst, arith, length-drop}
+use Rattle.std.proofs.Math.Nat.{add_assoc, add-zero}
 use Rattle.anim_names.specs.declared.entry.Entry.{Entry}
 use Rattle.anim_names.specs.declared.lane.Lane.{Lane}
 use Rattle.anim_names.specs.declared.lane.Lane.TheVariants.{Main, Compositor}
@@ -10,17 +11,17 @@ use Rattle.frame_exchange.specs.Journals.{Exchange, word_so_far}
 use Rattle.frame_exchange.specs.Sides.{MainState, main_after_edit, new_main}
 use Rattle.frame_script.specs.Printing.{script_text}
 use Rattle.tree_commit.specs.Edits.{Book, Change, new_book}
-use Rattle.tree_commit.specs.Scripts.{StepOfMain, EditStep, CommitStep, DrainStep, IsWellFormed, ScriptLists, are_allowed, book_after_step}
-use Rattle.tree_commit.specs.Runs.{MainLane, main_step}
+use Rattle.run_rules.specs.Scripts.{StepOfMain, EditStep, CommitStep, DrainStep, IsWellFormed, ScriptLists, are_allowed, book_after_step, event_room}
+use Rattle.run_rules.specs.Runs.{MainLane, main_step}
 use Rattle.word_machine.specs.Courses.{Course, board_of, course_after, course_of, made_with, main_of}
-use Rattle.word_machine.specs.Moments.{model_count}
 use Rattle.word_machine.specs.Turns.{MayMakeMain, counts_with, main_turned}
 use Rattle.word_machine.proofs.MainTurns.{board-turned_main, counts-turned, main-turned, may_make_main}
 use Rattle.word_machine.proofs.Right.{course-append, course_is_right, next_main}
-use Rattle.word_machine.proofs.UnderWay.{bounded, counted-next, first-allowed, main-left_next}
+use Rattle.word_machine.proofs.UnderWay.{bounded, counted-next, first-allowed}
 use Rattle.lane_threads.specs.Knowing.{IsMainAhead, IsMainAt, IsNextOfMain, KnowsMain, with_letters}
 use Rattle.lane_threads.proofs.Halves.{HasSameMain, main-kept}
 use Rattle.lane_threads.proofs.Letters.{journal-goes_on, letters-none, letters-one}
+use Rattle.word_machine.proofs.Letters.{left-after_main}
 
 -- ---- a side that is that of a run
 
@@ -57,12 +58,9 @@ main-level script word main counts at =
     let same = letters-none Main word in
     record {
       at = subst (λ (w : List Lane). IsMainAt script w main counts) (sym same) at;
-      made = ap (λ w. (course_of script w).main_made) same ∙ plus-none (course_of script word).main_made;
-      quiet = λ room event_room. ap (λ w. board_of (course_of script w) room event_room) same;
+      made = ap (λ w. (course_of script w).main_made) same ∙ sym (add-zero (course_of script word).main_made);
+      quiet = λ room queue_room. ap (λ w. board_of (course_of script w) room queue_room) same;
     }
-  where
-    plus-none : (k : ℕ) → k ≡ k + 0
-    plus-none k = omega arith
 
 -- ---- the next step
 
@@ -77,49 +75,45 @@ steps-turned (EditStep change) board main = refl
 steps-turned CommitStep board main = refl
 steps-turned DrainStep board main = refl
 
-left-after : (course : Course) (step : StepOfMain) (left : List StepOfMain) → course.lanes.main.left ≡ step ∷ left → (course_after course Main).lanes.main.left ≡ left
-unfolding main_step
-left-after course step left is = ap (λ steps. (next_main course steps).lanes.main.left) is ∙ main-left_next course step left
-
 counted-after : (course : Course) (step : StepOfMain) (left : List StepOfMain) (book : Book) → course.lanes.main.left ≡ step ∷ left → book.commits ≡ length course.lanes.main.commits → (book_after_step book step).commits ≡ length (course_after course Main).lanes.main.commits
 unfolding main_step
 counted-after course step left book is counted =
     counted-next course step left book counted ∙ ap (λ steps. length (next_main course steps).lanes.main.commits) (sym is)
 
-made-after : (course : Course) (step : StepOfMain) (left : List StepOfMain) → course.lanes.main.left ≡ step ∷ left → (course_after course Main).main_made ≡ course.main_made + 1
-made-after course step left is = ap (made_with course.main_made) is
+pub main_made-after : (course : Course) (step : StepOfMain) (left : List StepOfMain) → course.lanes.main.left ≡ step ∷ left → (course_after course Main).main_made ≡ course.main_made + 1
+main_made-after course step left is = ap (made_with course.main_made) is
 
-pub main-next : (script : ScriptLists) (word : List Lane) (main later : MainState) (counts more : List ℕ) (step : StepOfMain) (room event_room : ℕ) → IsMainAt script word main counts → IsNextOfMain script main.steps step → later ≡ main_turned step (board_of (course_of script word) room event_room) main → more ≡ counts_with step later counts → IsMainAt script (word ++ Main ∷ []) later more
-main-next script word main later counts more step room event_room at next made counted =
+pub main-next : (script : ScriptLists) (word : List Lane) (main later : MainState) (counts more : List ℕ) (step : StepOfMain) (room queue_room : ℕ) → IsMainAt script word main counts → IsNextOfMain script main.steps step → later ≡ main_turned step (board_of (course_of script word) room queue_room) main → more ≡ counts_with step later counts → IsMainAt script (word ++ Main ∷ []) later more
+main-next script word main later counts more step room queue_room at next made counted =
     let course = course_of script word in
     let left = drop (main.steps + 1) script.main in
     let is : course.lanes.main.left ≡ step ∷ left = at.of_left ∙ next in
     let one : course_of script (word ++ Main ∷ []) ≡ course_after course Main = course-append script word Main in
     let book = book_after_step main.book step in
     let turned : later ≡ main_of (course_after course Main) book main.room =
-    made ∙ ap (λ m. main_turned step (board_of course room event_room) m) at.of_main
-    ∙ main-turned course step left main.book room event_room main.room is in
+    made ∙ ap (λ m. main_turned step (board_of course room queue_room) m) at.of_main
+    ∙ main-turned course step left main.book room queue_room main.room is in
     let book_is : later.book ≡ book = ap (λ (m : MainState). m.book) turned in
-    let steps_is : later.steps ≡ main.steps + 1 = ap (λ (m : MainState). m.steps) made ∙ steps-turned step (board_of course room event_room) main in
+    let steps_is : later.steps ≡ main.steps + 1 = ap (λ (m : MainState). m.steps) made ∙ steps-turned step (board_of course room queue_room) main in
     let allowed = (first-allowed main.book step left (ap (are_allowed main.book) (sym next) ∙ at.allowed)).1 in
     record {
       of_main = main-is later (course_of script (word ++ Main ∷ [])) book main.room (turned ∙ ap (λ (c : Course). main_of c book main.room) (sym one));
       of_counts = counted ∙ ap (λ m. counts_with step m counts) turned ∙ ap (λ n. counts_with step (main_of (course_after course Main) book main.room) n) at.of_counts
           ∙ counts-turned course step left book main.room is ∙ ap (λ (c : Course). c.lanes.main.counts) (sym one);
-      of_left = ap (λ (c : Course). c.lanes.main.left) one ∙ left-after course step left is ∙ ap (λ n. drop n script.main) (sym steps_is);
+      of_left = ap (λ (c : Course). c.lanes.main.left) one ∙ left-after_main course step left is ∙ ap (λ n. drop n script.main) (sym steps_is);
       counted = ap (λ (b : Book). b.commits) book_is ∙ counted-after course step left main.book is at.counted ∙ ap (λ (c : Course). length c.lanes.main.commits) (sym one);
       allowed = ap (λ b. are_allowed b (drop later.steps script.main)) book_is ∙ ap (λ n. are_allowed book (drop n script.main)) steps_is ∙ allowed;
       batch_room = omega (arith, at.batch_room, ap (λ (m : MainState). m.room) turned);
     }
 
 -- Main may make its next step on a board of the run.
-pub main-may : (script : ScriptLists) → IsWellFormed script → (word : List Lane) (main : MainState) (counts : List ℕ) (step : StepOfMain) (room event_room : ℕ) → IsMainAt script word main counts → IsNextOfMain script main.steps step → 0 < room → MayMakeMain step main (board_of (course_of script word) room event_room)
-main-may script well word main counts step room event_room at next some =
+pub main-may : (script : ScriptLists) → IsWellFormed script → (word : List Lane) (main : MainState) (counts : List ℕ) (step : StepOfMain) (room queue_room : ℕ) → IsMainAt script word main counts → IsNextOfMain script main.steps step → 0 < room → MayMakeMain step main (board_of (course_of script word) room queue_room)
+main-may script well word main counts step room queue_room at next some =
     let course = course_of script word in
     let events = (bounded script well word).events in
     let steps_is : main.steps ≡ course.main_made = ap (λ (m : MainState). m.steps) at.of_main in
-    subst (λ (m : MainState). MayMakeMain step m (board_of course room event_room)) (sym at.of_main)
-    (may_make_main course step main.book room event_room main.room (course_is_right script word) at.counted
+    subst (λ (m : MainState). MayMakeMain step m (board_of course room queue_room)) (sym at.of_main)
+    (may_make_main course step main.book room queue_room main.room (course_is_right script word) at.counted
     (first-allowed main.book step (drop (main.steps + 1) script.main) (ap (are_allowed main.book) (sym next) ∙ at.allowed)).0
     (omega (arith, steps_is, main-within script main.steps step next, well.main_steps))
     some
@@ -128,11 +122,11 @@ main-may script well word main counts step room event_room at next some =
 
 -- ---- an edit, ahead of the word
 
-edit-is_quiet : (script : ScriptLists) (word : List Lane) (main : MainState) (counts : List ℕ) (change : Change) → IsMainAt script word main counts → IsNextOfMain script main.steps (EditStep change) → (room event_room : ℕ) → board_of (course_of script (word ++ Main ∷ [])) room event_room ≡ board_of (course_of script word) room event_room
-edit-is_quiet script word main counts change at next room event_room =
+edit-is_quiet : (script : ScriptLists) (word : List Lane) (main : MainState) (counts : List ℕ) (change : Change) → IsMainAt script word main counts → IsNextOfMain script main.steps (EditStep change) → (room queue_room : ℕ) → board_of (course_of script (word ++ Main ∷ [])) room queue_room ≡ board_of (course_of script word) room queue_room
+edit-is_quiet script word main counts change at next room queue_room =
     let course = course_of script word in
-    ap (λ (c : Course). board_of c room event_room) (course-append script word Main)
-    ∙ sym (board-turned_main course (EditStep change) (drop (main.steps + 1) script.main) main.book room event_room main.room (at.of_left ∙ next) (course_is_right script word) at.counted)
+    ap (λ (c : Course). board_of c room queue_room) (course-append script word Main)
+    ∙ sym (board-turned_main course (EditStep change) (drop (main.steps + 1) script.main) main.book room queue_room main.room (at.of_left ∙ next) (course_is_right script word) at.counted)
 
 main-edits : (script : ScriptLists) (word : List Lane) (silent : ℕ) (main later : MainState) (counts : List ℕ) (change : Change) → IsMainAhead script word silent main counts → IsNextOfMain script main.steps (EditStep change) → later ≡ main_after_edit main change → IsMainAhead script word (silent + 1) later counts
 main-edits script word silent main later counts change h next made =
@@ -142,14 +136,11 @@ main-edits script word silent main later counts change h next made =
       at = subst (λ (w : List Lane). IsMainAt script w later counts) (sym one)
           (main-next script before main later counts counts (EditStep change) 0 0 h.at next made refl);
       made = ap (λ w. (course_of script w).main_made) one ∙ ap (λ (c : Course). c.main_made) (course-append script before Main)
-          ∙ made-after (course_of script before) (EditStep change) (drop (main.steps + 1) script.main) (h.at.of_left ∙ next)
-          ∙ ap (λ n. n + 1) h.made ∙ plus_plus (course_of script word).main_made;
-      quiet = λ room event_room. ap (λ w. board_of (course_of script w) room event_room) one
-          ∙ edit-is_quiet script before main counts change h.at next room event_room ∙ h.quiet room event_room;
+          ∙ main_made-after (course_of script before) (EditStep change) (drop (main.steps + 1) script.main) (h.at.of_left ∙ next)
+          ∙ ap (λ n. n + 1) h.made ∙ add_assoc (course_of script word).main_made silent 1;
+      quiet = λ room queue_room. ap (λ w. board_of (course_of script w) room queue_room) one
+          ∙ edit-is_quiet script before main counts change h.at next room queue_room ∙ h.quiet room queue_room;
     }
-  where
-    plus_plus : (k : ℕ) → k + silent + 1 ≡ k + (silent + 1)
-    plus_plus k = omega arith
 
 -- Main knows what it knew, and of one step more.
 pub knows-edit : (script : ScriptLists) (seat : SeatState) (main later : MainState) (counts : List ℕ) (change : Change) → KnowsMain script seat main counts → IsNextOfMain script main.steps (EditStep change) → later ≡ main_after_edit main change → KnowsMain script seat later counts
@@ -165,7 +156,7 @@ pub no-entries : (script : ScriptLists) → [] ≡ (course_of script []).entries
 unfolding course_of
 no-entries script = refl
 
-main-begins : (script : ScriptLists) → IsWellFormed script → (main : MainState) → main ≡ new_main main.room → 2 * model_count script ≤ main.room → IsMainAt script [] main []
+main-begins : (script : ScriptLists) → IsWellFormed script → (main : MainState) → main ≡ new_main main.room → event_room script ≤ main.room → IsMainAt script [] main []
 unfolding course_of
 main-begins script well main is room = record {
   of_main = main-is main (course_of script []) new_book main.room is;
@@ -176,7 +167,7 @@ main-begins script well main is room = record {
   batch_room = room;
 }
 
-pub knows-new_main : (script : ScriptLists) → IsWellFormed script → (seat : SeatState) (main : MainState) → main ≡ new_main main.room → 2 * model_count script ≤ main.room → seat.lane ≡ Main → seat.subject ≡ script_text script → seat.seen ≡ [] → seat.mine ≡ [] → KnowsMain script seat main []
+pub knows-new_main : (script : ScriptLists) → IsWellFormed script → (seat : SeatState) (main : MainState) → main ≡ new_main main.room → event_room script ≤ main.room → seat.lane ≡ Main → seat.subject ≡ script_text script → seat.seen ≡ [] → seat.mine ≡ [] → KnowsMain script seat main []
 knows-new_main script well seat main is room lane subject seen mine = record {
   seat_is = record {
     lane_is = lane;

@@ -9,9 +9,9 @@ use Rattle.commit_lock.specs.Seats.{SeatState, seat_after}
 use Rattle.frame_script.specs.Printing.{script_text}
 use Rattle.frame_exchange.specs.Journals.{Exchange, drain_entry, filled, publish_entry, word_so_far}
 use Rattle.frame_exchange.specs.Sides.{MainState}
-use Rattle.tree_commit.specs.Scripts.{StepOfMain, EditStep, CommitStep, DrainStep}
-use Rattle.tree_commit.specs.Runs.{CompositorLane}
-use Rattle.word_machine.specs.Courses.{Course, board_of, course_after, course_of, made_with}
+use Rattle.run_rules.specs.Scripts.{StepOfMain, EditStep, CommitStep, DrainStep}
+use Rattle.run_rules.specs.Runs.{CompositorLane}
+use Rattle.word_machine.specs.Courses.{Course, board_of, course_after, course_of}
 use Rattle.word_machine.specs.Turns.{MayMakeMain, board_after_main, counts_with, main_turned}
 use Rattle.word_machine.proofs.MainTurns.{board-turned_main, room_after_main}
 use Rattle.word_machine.proofs.Right.{course_is_right}
@@ -19,14 +19,14 @@ use Rattle.lane_threads.specs.Keeping.{IsKeptBehindLock, ScriptBoard, course_at}
 use Rattle.lane_threads.specs.Knowing.{IsMainAhead, IsMainAt, IsNextOfMain, KnowsMain, with_letters}
 use Rattle.lane_threads.proofs.Halves.{compositor-kept, course-one}
 use Rattle.lane_threads.proofs.Letters.{filled-up, letters-one, letters-other, letters-own, word-one_more}
-use Rattle.lane_threads.proofs.MainLane.{main-level, main-may, main-moved, main-next, main-within}
+use Rattle.lane_threads.proofs.MainLane.{main-level, main-may, main-moved, main-next, main-within, main_made-after}
 
 -- ---- the board
 
 -- a board that is that of a run
-pub board-is : (board : Exchange) (course : Course) (room event_room : ℕ) → board ≡ board_of course room event_room → board ≡ board_of course board.room board.queue.room
-board-is board course room event_room is =
-    is ∙ ap (λ r. board_of course r event_room) (sym (ap (λ (b : Exchange). b.room) is))
+pub board-is : (board : Exchange) (course : Course) (room queue_room : ℕ) → board ≡ board_of course room queue_room → board ≡ board_of course board.room board.queue.room
+board-is board course room queue_room is =
+    is ∙ ap (λ r. board_of course r queue_room) (sym (ap (λ (b : Exchange). b.room) is))
     ∙ ap (λ e. board_of course board.room e) (sym (ap (λ (b : Exchange). b.queue.room) is))
 
 -- the step makes an entry
@@ -51,9 +51,6 @@ room-noted : (step : StepOfMain) (room : ℕ) → NotesOne step → 0 < room →
 room-noted (EditStep change) room one some = absurd one
 room-noted CommitStep room one some = omega (arith, some)
 room-noted DrainStep room one some = omega (arith, some)
-
-made-after : (course : Course) (step : StepOfMain) (left : List StepOfMain) → course.lanes.main.left ≡ step ∷ left → (course_after course Main).main_made ≡ course.main_made + 1
-made-after course step left is = ap (made_with course.main_made) is
 
 -- ---- before the step, and after it
 
@@ -110,7 +107,7 @@ module _ (shared : ScriptBoard) (kept : IsKeptBehindLock shared) (silent : ℕ) 
     main_made-more : (course_of shared.script (word_so_far after.entries)).main_made ≡ main.steps + 1
     main_made-more =
         ap (λ (c : Course). c.main_made) course-is
-        ∙ made-after (course_of shared.script (with_letters Main silent (word_so_far shared.board.entries))) step (drop (main.steps + 1) shared.script.main) (h.at.of_left ∙ next)
+        ∙ main_made-after (course_of shared.script (with_letters Main silent (word_so_far shared.board.entries))) step (drop (main.steps + 1) shared.script.main) (h.at.of_left ∙ next)
         ∙ ap (λ n. n + 1) (sym (ap (λ (m : MainState). m.steps) h.at.of_main))
 
     pub main-kept_here : IsKeptBehindLock (record { script = shared.script; board = after })

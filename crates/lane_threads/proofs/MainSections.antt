@@ -9,7 +9,7 @@ use Rattle.commit_lock.specs.Seats.{SeatState, seat_after}
 use Rattle.event_queue.specs.Queues.{unheard}
 use Rattle.frame_exchange.specs.Journals.{word_so_far}
 use Rattle.frame_exchange.specs.Sides.{MainState, main_after_drain, main_after_hearing, main_after_publish}
-use Rattle.tree_commit.specs.Scripts.{StepOfMain, CommitStep, DrainStep, IsWellFormed, ScriptLists}
+use Rattle.run_rules.specs.Scripts.{StepOfMain, CommitStep, DrainStep, IsWellFormed, ScriptLists}
 use Rattle.tree_commit.specs.Trees.{Committed}
 use Rattle.word_machine.specs.Courses.{board_of, course_of}
 use Rattle.word_machine.specs.Turns.{MayMakeMain, board_after_main, counts_with}

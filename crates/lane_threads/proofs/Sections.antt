@@ -7,12 +7,12 @@ use Rattle.anim_names.specs.declared.lane.Lane.TheVariants.{Main, Compositor}
 use Rattle.event_queue.specs.Queues.{Queue, with_all_heard}
 use Rattle.frame_exchange.specs.Journals.{Exchange, drain_entry, last_upto, mailbox_after_pull, publish_entry, published, pull_entry, send_entry}
 use Rattle.frame_exchange.specs.Sides.{CompositorState, MainState, news_of, slot_of}
-use Rattle.tree_commit.specs.declared.runs.compositor_step.CompositorStep.{CompositorStep}
-use Rattle.tree_commit.specs.declared.runs.compositor_step.CompositorStep.TheVariants.{Pull, Activate, Tick}
-use Rattle.tree_commit.specs.Marks.{event_of}
+use Rattle.run_rules.specs.declared.compositor_step.CompositorStep.{CompositorStep}
+use Rattle.run_rules.specs.declared.compositor_step.CompositorStep.TheVariants.{Pull}
+use Rattle.run_rules.specs.Marks.{event_of}
 use Rattle.frame_script.specs.Printing.{script_text}
 use Rattle.script_printer.proofs.ScriptsBack.{one_text_one_script}
-use Rattle.tree_commit.specs.Scripts.{CommitStep, DrainStep, IsWellFormed, ScriptLists}
+use Rattle.run_rules.specs.Scripts.{CommitStep, DrainStep, IsWellFormed, ScriptLists}
 use Rattle.tree_commit.specs.Trees.{Committed}
 use Rattle.word_machine.specs.Turns.{MayMakeCompositor, MayMakeMain, MaySend, board_after_compositor, board_after_main, board_told, board_with_news}
 use Rattle.lane_threads.specs.Keeping.{IsKeptBehindLock, ScriptBoard}
@@ -20,6 +20,7 @@ use Rattle.lane_threads.specs.Knowing.{marked}
 use Rattle.lane_threads.specs.Sections.{MayDrain, MayMark, MayPublish, MayPull, MaySendMarks, board_published}
 use Rattle.lane_threads.proofs.CompositorSection.{NotesOne, compositor-kept_here, compositor-may_here}
 use Rattle.lane_threads.proofs.MainSection.{main-kept_here, main-may_here}
+use Rattle.run_laws.proofs.CompositorSteps.{by_mark}
 
 -- a board by its parts
 abbrev board_with : List Entry → Option Committed → Queue → ℕ → Exchange
@@ -85,32 +86,28 @@ some-news compositor some =
     omega (arith, some, length-map (drop compositor.sent compositor.marks) event_of, length-drop compositor.sent compositor.marks)
 
 notes-one : (step : CompositorStep) (before : CompositorState) → MayMark step → 0 < length (news_of (marked step before)) → NotesOne step before
-notes-one Pull before may some = tt
-notes-one Activate before may some = some
-notes-one (Tick time) before may some = some
+notes-one step before may some =
+    by_mark (λ step. 0 < length (news_of (marked step before)) → NotesOne step before) (λ some. some) (λ time some. some) step may some
 
 told-is : (step : CompositorStep) (before : CompositorState) (board : Exchange) → MayMark step → board_after_compositor step before board ≡ board_told (marked step before) board
-told-is Pull before board may = absurd may
-told-is Activate before board may = refl
-told-is (Tick time) before board may = refl
+told-is step before board may =
+    by_mark (λ step. board_after_compositor step before board ≡ board_told (marked step before) board) refl (λ time. refl) step may
 
 -- what a step that makes marks asks of the board
 send-allowed : (step : CompositorStep) (before : CompositorState) (board : Exchange) → MayMark step → MayMakeCompositor step before board → MaySend (marked step before) board
-send-allowed Pull before board mark may = absurd mark
-send-allowed Activate before board mark may = may.allows
-send-allowed (Tick time) before board mark may = may.allows.1
+send-allowed step before board mark may =
+    by_mark (λ step. MayMakeCompositor step before board → MaySend (marked step before) board) (λ may. may.allows) (λ time may. may.allows.1) step mark may
 
 steps-marked : (step : CompositorStep) (before : CompositorState) → MayMark step → (marked step before).steps ≡ before.steps + 1
-steps-marked Pull before may = absurd may
-steps-marked Activate before may = refl
-steps-marked (Tick time) before may = refl
+steps-marked step before may =
+    by_mark (λ step. (marked step before).steps ≡ before.steps + 1) refl (λ time. refl) step may
 
 -- a board with news
 told-some : (upto : ℕ) (news : List AnimEvent) (board after : Exchange) → 0 < length news → after.entries ≡ board.entries ++ send_entry upto news ∷ [] → after.mailbox ≡ board.mailbox → after.queue.events ≡ board.queue.events ++ news → after.queue.heard ≡ board.queue.heard → after.queue.room + length news ≡ board.queue.room → after.room + 1 ≡ board.room → after ≡ board_with_news upto news board
-told-some upto [] board after some entries mailbox events heard event_room room = absurd (omega (arith, some))
-told-some upto (event ∷ news) board after some entries mailbox events heard event_room room =
+told-some upto [] board after some entries mailbox events heard queue_room room = absurd (omega (arith, some))
+told-some upto (event ∷ news) board after some entries mailbox events heard queue_room room =
     let a_queue : List AnimEvent → ℕ → ℕ → Queue = λ e h r. record { events = e; heard = h; room = r } in
-    let less : after.queue.room ≡ board.queue.room - length (event ∷ news) = omega (arith, event_room) in
+    let less : after.queue.room ≡ board.queue.room - length (event ∷ news) = omega (arith, queue_room) in
     let queue : after.queue ≡ a_queue (board.queue.events ++ event ∷ news) board.queue.heard (board.queue.room - length (event ∷ news)) =
     ap (λ e. a_queue e after.queue.heard after.queue.room) events
     ∙ ap (λ h. a_queue (board.queue.events ++ event ∷ news) h after.queue.room) heard
@@ -156,7 +153,7 @@ module _ (shared : ScriptBoard) (kept : IsKeptBehindLock shared) (compositor : C
         (subst (λ (c : CompositorState). 0 < length (news_of c)) may.is (some-news compositor some))
 
     pub send-kept : compositor.sent < length compositor.marks → (after : Exchange) → after.entries ≡ shared.board.entries ++ send_entry compositor.steps (news_of compositor) ∷ [] → after.mailbox ≡ shared.board.mailbox → after.queue.events ≡ shared.board.queue.events ++ news_of compositor → after.queue.heard ≡ shared.board.queue.heard → after.queue.room + length (news_of compositor) ≡ shared.board.queue.room → after.room + 1 ≡ shared.board.room → IsKeptBehindLock (record { script = shared.script; board = after })
-    send-kept some after entries mailbox events heard event_room room =
+    send-kept some after entries mailbox events heard queue_room room =
         compositor-kept_here shared kept may.silent may.before may.frames may.ahead may.step may.next after
-        (sent-is after (told-some compositor.steps (news_of compositor) shared.board after (some-news compositor some) entries mailbox events heard event_room room))
+        (sent-is after (told-some compositor.steps (news_of compositor) shared.board after (some-news compositor some) entries mailbox events heard queue_room room))
         (sent-one some)

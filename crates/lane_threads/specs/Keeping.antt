@@ -1,11 +1,10 @@
 -- What is kept behind the lock: a board, and the script whose steps its entries are of.
-use Rattle.std.specs.Prelude.{◌≡◌, ◌+◌, ◌*◌, ◌≤◌, length}
+use Rattle.std.specs.Prelude.{◌≡◌, ◌+◌, ◌≤◌, length}
 use Rattle.anim_names.specs.declared.lane.Lane.TheVariants.{Main, Compositor}
 use Rattle.anim_names.specs.Lanes.{letters_of}
 use Rattle.frame_exchange.specs.Journals.{Exchange, word_so_far}
-use Rattle.tree_commit.specs.Scripts.{IsWellFormed, ScriptLists}
+use Rattle.run_rules.specs.Scripts.{IsWellFormed, ScriptLists, event_room}
 use Rattle.word_machine.specs.Courses.{Course, board_of, course_of}
-use Rattle.word_machine.specs.Moments.{model_count}
 
 -- a board, and the script that the lanes run on it
 pub record ScriptBoard : Type 0 where
@@ -28,4 +27,4 @@ pub record IsKeptBehindLock (shared : ScriptBoard) : Type 0 where
   pub compositor_within : (course_at shared).compositor_made ≤ length shared.script.compositor
   pub for_entries : length shared.script.main + length shared.script.compositor
       ≤ shared.board.room + (course_at shared).main_made + (course_at shared).compositor_made
-  pub for_events : 2 * model_count shared.script ≤ shared.board.queue.room + length (course_at shared).lanes.compositor.marks
+  pub for_events : event_room shared.script ≤ shared.board.queue.room + length (course_at shared).lanes.compositor.marks

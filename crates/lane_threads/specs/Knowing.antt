@@ -1,5 +1,5 @@
 -- What a lane knows of a run while the other lane goes on.
-use Rattle.std.specs.Prelude.{◌≡◌, ℕ, ◌+◌, ◌*◌, ◌≤◌, true, List, ◌∷◌, ◌++◌, drop, length, replicate}
+use Rattle.std.specs.Prelude.{◌≡◌, ℕ, ◌+◌, ◌≤◌, true, List, ◌∷◌, ◌++◌, drop, length, replicate}
 use Rattle.anim_names.specs.declared.lane.Lane.{Lane}
 use Rattle.anim_names.specs.declared.lane.Lane.TheVariants.{Main, Compositor}
 use Rattle.commit_lock.specs.Journals.{entries_of}
@@ -7,10 +7,10 @@ use Rattle.commit_lock.specs.Seats.{SeatState}
 use Rattle.frame_exchange.specs.Journals.{Exchange, word_of_journal, word_so_far}
 use Rattle.frame_exchange.specs.Sides.{CompositorState, MainState, compositor_after_activation, compositor_after_tick}
 use Rattle.frame_script.specs.Printing.{script_text}
-use Rattle.tree_commit.specs.declared.runs.compositor_step.CompositorStep.{CompositorStep}
-use Rattle.tree_commit.specs.declared.runs.compositor_step.CompositorStep.TheVariants.{Pull, Activate, Tick}
-use Rattle.tree_commit.specs.Frames.{DrawnFrame}
-use Rattle.tree_commit.specs.Scripts.{IsWordOf, ScriptLists, StepOfMain, are_allowed}
+use Rattle.run_rules.specs.declared.compositor_step.CompositorStep.{CompositorStep}
+use Rattle.run_rules.specs.declared.compositor_step.CompositorStep.TheVariants.{Pull, Activate, Tick}
+use Rattle.run_rules.specs.Frames.{DrawnFrame}
+use Rattle.run_rules.specs.Scripts.{IsWordOf, ScriptLists, StepOfMain, are_allowed, event_room}
 use Rattle.word_machine.specs.Courses.{board_of, compositor_of, course_of, main_of}
 use Rattle.word_machine.specs.Moments.{IsAt, TicksAreLeft, model_count}
 
@@ -41,14 +41,14 @@ pub record IsMainAt (script : ScriptLists) (word : List Lane) (main : MainState)
   pub of_left : (course_of script word).lanes.main.left ≡ drop main.steps script.main
   pub counted : main.book.commits ≡ length (course_of script word).lanes.main.commits
   pub allowed : are_allowed main.book (drop main.steps script.main) ≡ true
-  pub batch_room : 2 * model_count script ≤ main.room
+  pub batch_room : event_room script ≤ main.room
 
 -- Main is this many steps ahead of a word, and these steps left the board as it was.
 pub record IsMainAhead (script : ScriptLists) (word : List Lane) (silent : ℕ) (main : MainState) (counts : List ℕ) : Type 0 where
   pub at : IsMainAt script (with_letters Main silent word) main counts
   pub made : (course_of script (with_letters Main silent word)).main_made ≡ (course_of script word).main_made + silent
-  pub quiet : (room event_room : ℕ) → board_of (course_of script (with_letters Main silent word)) room event_room
-      ≡ board_of (course_of script word) room event_room
+  pub quiet : (room queue_room : ℕ) → board_of (course_of script (with_letters Main silent word)) room queue_room
+      ≡ board_of (course_of script word) room queue_room
 
 -- Main is a number of steps ahead of what its seat has seen, however many steps the compositor has made meanwhile.
 pub record KnowsMain (script : ScriptLists) (seat : SeatState) (main : MainState) (counts : List ℕ) : Type 0 where
@@ -74,8 +74,8 @@ pub record IsCompositorAt (script : ScriptLists) (word : List Lane) (compositor 
 pub record IsCompositorAhead (script : ScriptLists) (word : List Lane) (silent : ℕ) (compositor : CompositorState) (frames : List DrawnFrame) : Type 0 where
   pub at : IsCompositorAt script (with_letters Compositor silent word) compositor frames
   pub made : (course_of script (with_letters Compositor silent word)).compositor_made ≡ (course_of script word).compositor_made + silent
-  pub quiet : (room event_room : ℕ) → board_of (course_of script (with_letters Compositor silent word)) room event_room
-      ≡ board_of (course_of script word) room event_room
+  pub quiet : (room queue_room : ℕ) → board_of (course_of script (with_letters Compositor silent word)) room queue_room
+      ≡ board_of (course_of script word) room queue_room
 
 -- The compositor is a number of steps ahead of what its seat has seen, however many steps main has made meanwhile.
 pub record KnowsCompositor (script : ScriptLists) (seat : SeatState) (compositor : CompositorState) (frames : List DrawnFrame) : Type 0 where

@@ -1,13 +1,13 @@
 -- The sections of the lock: what each asks of the lane that makes it, and what it leaves.
-use Rattle.std.specs.Prelude.{◌≡◌, ℕ, ◌+◌, ◌-◌, true, Bool, List, [], ◌∷◌, ◌++◌, Option, None, is_some, IsSomeAnd}
+use Rattle.std.specs.Prelude.{◌≡◌, ℕ, ◌+◌, ◌-◌, true, Bool, List, [], ◌∷◌, ◌++◌, Option, None, is_some, IsSomeAnd, IsFalse}
 use Rattle.anim_names.specs.declared.lane.Lane.TheVariants.{Main, Compositor}
 use Rattle.commit_lock.specs.Seats.{SeatState}
 use Rattle.frame_exchange.specs.Journals.{Exchange, publish_entry, word_so_far}
 use Rattle.frame_exchange.specs.Sides.{CompositorState, MainState, commit_of, compositor_after_pull, main_after_build, main_after_hearing}
-use Rattle.tree_commit.specs.declared.runs.compositor_step.CompositorStep.{CompositorStep}
-use Rattle.tree_commit.specs.declared.runs.compositor_step.CompositorStep.TheVariants.{Pull, Activate, Tick}
-use Rattle.tree_commit.specs.Frames.{DrawnFrame}
-use Rattle.tree_commit.specs.Scripts.{CommitStep, DrainStep, ScriptLists}
+use Rattle.run_rules.specs.declared.compositor_step.CompositorStep.{CompositorStep}
+use Rattle.run_rules.specs.declared.compositor_step.CompositorStep.TheVariants.{Pull}
+use Rattle.run_rules.specs.Frames.{DrawnFrame}
+use Rattle.run_rules.specs.Scripts.{CommitStep, DrainStep, ScriptLists, is_quiet}
 use Rattle.tree_commit.specs.Trees.{Committed}
 use Rattle.word_machine.specs.Turns.{MayPlace, compositor_with_reply, counts_with, frames_with}
 use Rattle.lane_threads.specs.Keeping.{ScriptBoard}
@@ -62,11 +62,9 @@ pub record MayPull (shared : ScriptBoard) (compositor : CompositorState) : Type 
   pub ahead : IsCompositorAhead shared.script (word_so_far shared.board.entries) silent compositor frames
   pub next : IsNextOfCompositor shared.script compositor.steps Pull
 
--- The step makes marks.
+-- The step may make marks.
 abbrev pub MayMark : CompositorStep → Type 0
-MayMark Pull = ⊥
-MayMark Activate = Unit {0}
-MayMark (Tick time) = Unit {0}
+MayMark step = IsFalse (is_quiet step)
 
 -- The compositor may send: it stood ahead of the journal where this step is its next one, and has made its marks.
 pub record MaySendMarks (shared : ScriptBoard) (compositor : CompositorState) : Type 0 where

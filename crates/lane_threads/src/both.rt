@@ -1,13 +1,13 @@
 //! Both lanes in threads, and the report of their run.
 
-ghost use Rattle.std.specs.Prelude.{◌≡◌, ◌*◌, ◌≤◌, IfOk, OnOk, length};
+ghost use Rattle.std.specs.Prelude.{◌≡◌, ◌≤◌, IfOk, OnOk, length};
 ghost use Rattle.anim_names.specs.declared.lane.Lane.{Lane};
 ghost use Rattle.commit_lock.specs.Seats.{fresh_seat};
 ghost use Rattle.frame_exchange.specs.Sides.{new_compositor, new_main};
 ghost use Rattle.frame_script.specs.Printing.{script_text};
 ghost use Rattle.lane_threads.specs.Knowing.{HaveEnded, IsSeatOf, KnowsCompositor, KnowsMain};
-ghost use Rattle.tree_commit.specs.Runs.{report_of};
-ghost use Rattle.tree_commit.specs.Scripts.{IsWordOf};
+ghost use Rattle.run_rules.specs.Runs.{report_of};
+ghost use Rattle.run_rules.specs.Scripts.{IsWordOf, event_room};
 ghost use Rattle.word_machine.specs.Laws.{KeepsLaws};
 ghost use Rattle.word_machine.specs.Moments.{MayReplay, model_count};
 
@@ -16,6 +16,7 @@ use crate::lane_board::LaneBoard;
 use crate::main_turns::main_lane;
 use commit_lock::{CommitLock, LaneSeat};
 use edge_io::Gate;
+use element_samples::Frame;
 use frame_exchange::{Board, CompositorSteps, MainSteps};
 use frame_report::Report;
 use frame_script::Script;
@@ -23,7 +24,6 @@ use std::alloc::{AllocError, Global};
 use std::sync::Wait;
 use std::thread;
 use std::thread::Threads;
-use tree_commit::Frame;
 use word_machine::close;
 
 /// Makes the steps of both lanes, the compositor's in a thread of its own beside the caller's, and then the closing
@@ -103,7 +103,7 @@ fn join_lanes<
 )
     requires main_seat { main.0.seat ≡ fresh_seat main.0.lock.now Lane.Main (script_text script.now) }
     requires new_main { M.state main.1 ≡ new_main (M.state main.1).room }
-    requires batch_room { 2 * model_count script.now ≤ (M.state main.1).room }
+    requires batch_room { event_room script.now ≤ (M.state main.1).room }
     requires compositor_seat { compositor.0.seat ≡ fresh_seat compositor.0.lock.now Lane.Compositor (script_text script.now) }
     requires new_compositor { C.state compositor.1 ≡ new_compositor (C.state compositor.1).models }
     requires models { model_count script.now ≤ (C.state compositor.1).models }
@@ -137,7 +137,7 @@ fn whole_main<'a, 's, M: MainSteps, G: Gate, R: Wait>(
 ) -> (LaneSeat<LaneBoard<'s>>, M, Result<Vec<u32>, AllocError>)
     requires seat { desk.seat ≡ fresh_seat desk.lock.now Lane.Main (script_text script.now) }
     requires new { M.state side ≡ new_main (M.state side).room }
-    requires room { 2 * model_count script.now ≤ (M.state side).room }
+    requires room { event_room script.now ≤ (M.state side).room }
     ensures lock { result.0.lock ≡ desk.entry.lock.now }
     ensures seat { IsSeatOf script.now Lane.Main result.0 }
     ensures knows { IfOk result.2 (λ counts. KnowsMain script.now result.0 (M.state result.1) counts.items) }

@@ -7,18 +7,19 @@ ghost use Rattle.frame_exchange.specs.Sides.{new_compositor};
 ghost use Rattle.frame_script.specs.Printing.{script_text};
 ghost use Rattle.lane_threads.specs.Knowing.{IsNextOfCompositor, IsSeatOf, KnowsCompositor};
 ghost use Rattle.lane_threads.specs.Sections.{HasMarked, HasPulled};
-ghost use Rattle.tree_commit.specs.declared.runs.compositor_step.CompositorStep.{CompositorStep};
+ghost use Rattle.run_rules.specs.declared.compositor_step.CompositorStep.{CompositorStep};
 ghost use Rattle.word_machine.specs.Moments.{model_count};
 
 use crate::lane_board::LaneBoard;
 use anim_names::Lane;
 use commit_lock::{CommitLock, LaneSeat};
 use edge_io::Gate;
+use element_samples::Frame;
 use frame_exchange::CompositorSteps;
 use frame_script::Script;
+use run_rules::CompositorStep;
 use std::alloc::{AllocError, Global};
 use std::sync::Wait;
-use tree_commit::{CompositorStep, Frame};
 
 /// Makes all of the compositor's steps, and gives the frames of its ticks.
 ///

@@ -1,13 +1,15 @@
-ghost use Rattle.std.specs.Prelude.{◌≡◌, ◌+◌, ◌*◌, ◌<◌, ◌≤◌, not, [], length};
+//! The board as the lock's value: with its script, so that each section leaves it as the script's run does after the
+//! journal's word.
+
+ghost use Rattle.std.specs.Prelude.{◌≡◌, ◌+◌, ◌<◌, ◌≤◌, not, [], length};
 ghost use Rattle.event_queue.specs.Queues.{unheard};
 ghost use Rattle.frame_exchange.specs.Journals.{finds_nothing, reply_to_pull};
 ghost use Rattle.frame_script.specs.Printing.{script_text};
 ghost use Rattle.frame_exchange.specs.Sides.{compositor_after_pull, compositor_after_send, main_after_drain, main_after_publish, slot_of};
 ghost use Rattle.lane_threads.specs.Keeping.{IsKeptBehindLock, ScriptBoard};
 ghost use Rattle.lane_threads.specs.Sections.{MayDrain, MayPublish, MayPull, MaySendMarks, board_published};
-ghost use Rattle.tree_commit.specs.declared.runs.compositor_step.CompositorStep.{CompositorStep};
-ghost use Rattle.tree_commit.specs.Scripts.{DrainStep};
-ghost use Rattle.word_machine.specs.Moments.{model_count};
+ghost use Rattle.run_rules.specs.declared.compositor_step.CompositorStep.{CompositorStep};
+ghost use Rattle.run_rules.specs.Scripts.{DrainStep, event_room};
 ghost use Rattle.word_machine.specs.Turns.{board_after_compositor, board_after_main, board_told};
 
 use commit_lock::Journaled;
@@ -54,7 +56,7 @@ impl<'s> LaneBoard<'s> {
     pub fn new(script: &'s Script, board: Board) -> LaneBoard<'s>
         requires no_entry { board.entries ≡ [] }
         requires entry_room { length script.now.main + length script.now.compositor ≤ board.room }
-        requires event_room { 2 * model_count script.now ≤ board.queue.room }
+        requires event_room { event_room script.now ≤ board.queue.room }
         ensures script { result.script ≡ script.now }
         ensures board { result.board ≡ board }
     {

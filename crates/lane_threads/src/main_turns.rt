@@ -1,15 +1,15 @@
 //! Main's lane: all of its steps, in order.
 
-ghost use Rattle.std.specs.Prelude.{◌≡◌, ◌+◌, ◌*◌, ◌<◌, ◌≤◌, [], IfOk, OnOk, length};
+ghost use Rattle.std.specs.Prelude.{◌≡◌, ◌+◌, ◌<◌, ◌≤◌, IfOk, OnOk, length};
 ghost use Rattle.anim_names.specs.declared.lane.Lane.{Lane};
 ghost use Rattle.commit_lock.specs.Seats.{fresh_seat};
 ghost use Rattle.frame_exchange.specs.Sides.{new_main};
 ghost use Rattle.frame_script.specs.Printing.{script_text};
 ghost use Rattle.lane_threads.specs.Knowing.{IsNextOfMain, IsSeatOf, KnowsMain};
 ghost use Rattle.lane_threads.specs.Sections.{HasBuilt, HasDrained};
-ghost use Rattle.tree_commit.specs.Scripts.{CommitStep, DrainStep, EditStep};
-ghost use Rattle.tree_commit.specs.Views.{change_of, step_of};
-ghost use Rattle.word_machine.specs.Moments.{model_count};
+ghost use Rattle.run_rules.specs.Scripts.{CommitStep, DrainStep, EditStep, event_room};
+ghost use Rattle.tree_commit.specs.Views.{change_of};
+ghost use Rattle.run_rules.specs.Views.{step_of};
 
 use crate::lane_board::LaneBoard;
 use anim_names::Lane;
@@ -17,9 +17,10 @@ use commit_lock::{CommitLock, LaneSeat};
 use edge_io::Gate;
 use frame_exchange::MainSteps;
 use frame_script::Script;
+use run_rules::MainStep;
 use std::alloc::{AllocError, Global};
 use std::sync::{Arc, Wait};
-use tree_commit::{Commit, Edit, MainStep};
+use tree_commit::{Commit, Edit};
 use word_machine::make_edit;
 
 /// Makes all of main's steps, and gives how many events main has heard after each drain.
@@ -38,7 +39,7 @@ pub fn main_lane<'s, M: MainSteps, G: Gate, R: Wait>(
 ) -> (LaneSeat<LaneBoard<'s>>, Result<Vec<u32>, AllocError>)
     requires seat { seat ≡ fresh_seat lock.now Lane.Main (script_text script.now) }
     requires new { M.state side.old ≡ new_main (M.state side.old).room }
-    requires room { 2 * model_count script.now ≤ (M.state side.old).room }
+    requires room { event_room script.now ≤ (M.state side.old).room }
     ensures lock { result.0.lock ≡ lock.now }
 
     // The seat's journal is the history of the run after its own word, and main's entries in it are those of its steps.

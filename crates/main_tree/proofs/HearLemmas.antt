@@ -10,8 +10,8 @@ use Rattle.anim_delegate.specs.declared.policy.Policy.{Policy}
 use Rattle.anim_delegate.specs.Table.{verdict_on, is_retire}
 use Rattle.keyframe_model.specs.Models.{Spec}
 use Rattle.tree_commit.specs.declared.edits.refusal.EditRefusal.TheVariants.{ModelUnknown}
-use Rattle.tree_commit.specs.Edits.{RemoveModel, book_after, edit_refusal, is_in, tree_after, without_model}
-use Rattle.tree_commit.specs.Runs.{model_of_event, tree_after_hearing, tree_after_verdict, retires, retires_found}
+use Rattle.tree_commit.specs.Edits.{OnModels, RemoveModel, book_after, edit_refusal, is_in, tree_after, without_model}
+use Rattle.run_rules.specs.Runs.{model_of_event, tree_after_hearing, tree_after_verdict, retires, retires_found}
 use Rattle.tree_commit.specs.Tables.{StandUnderOwnIds, spec_of}
 use Rattle.tree_commit.specs.Trees.{TreeLists, has_model, model_with}
 use Rattle.main_tree.specs.EditedTrees.{EditedTree, GoesWithBook, after_edit, after_hearing}
@@ -93,7 +93,7 @@ is_there edited id policy is = (there id edited.tree.models policy is).0
 
 -- and may be removed
 pub may_go : (edited : EditedTree) (id : ℕ) (policy : Policy) → GoesWithBook edited → Some policy ≡ option_map (λ model. model.policy) (model_with edited.tree id)
-    → edit_refusal edited.book (RemoveModel id) ≡ None
+    → edit_refusal edited.book (OnModels (RemoveModel id)) ≡ None
 unfolding edit_refusal
 may_go edited id policy goes is = by (is_in id edited.book.models) refl
   where
@@ -103,6 +103,6 @@ may_go edited id policy goes is = by (is_in id edited.book.models) refl
         absurd (false≢true (sym (absent_model id edited.book.models edited.tree.models goes.models_added unknown) ∙ (there id edited.tree.models policy is).1))
 
 -- a removal leaves the book as it is
-pub removed : (edited : EditedTree) (id : ℕ) → after_edit edited (RemoveModel id) ≡ record { tree = without_model edited.tree id; book = edited.book }
+pub removed : (edited : EditedTree) (id : ℕ) → after_edit edited (OnModels (RemoveModel id)) ≡ record { tree = without_model edited.tree id; book = edited.book }
 unfolding tree_after book_after
 removed edited id = refl

@@ -4,29 +4,20 @@ use Rattle.std.specs.List.{list_any}
 use Rattle.std.proofs.lemmas.List.{map-append}
 use Rattle.std.proofs.lemmas.List.Elements.{All-cons, All-head, All-tail, All-push, All-weaker}
 use Rattle.std.proofs.lemmas.List.Folds.{list_any-append}
-use Rattle.transform_ops.specs.declared.op.TransformOp.{TransformOp}
-use Rattle.keyframe_model.specs.Models.{Spec}
-use Rattle.tree_commit.specs.Trees.{Element, Clock, Look}
-use Rattle.tree_commit.specs.Edits.{Change, AddElement, RemoveElement, SetOpacity, SetTransform, AddTimeline, AddModel, RemoveModel, edit_refusal, is_in, without, with_look, tree_after, book_after, finds_its_target}
+use Rattle.keyframe_model.specs.Models.{Spec, PropertyValue}
+use Rattle.tree_commit.specs.Trees.{Clock, Look, set_own}
+use Rattle.tree_commit.specs.Edits.{Change, ElementChange, ModelChange, TimelineChange, OnElements, OnTimelines, OnModels, AddElement, RemoveElement, SetOwn, AddTimeline, AddModel, RemoveModel, edit_refusal, is_in, without, tree_after, book_after, finds_its_model, finds_its_target}
 use Rattle.tree_commit.specs.Tables.{has_timeline}
 use Rattle.tree_commit.proofs.BookLemmas.{known_timeline}
 use Rattle.main_tree.specs.EditedTrees.{EditedTree, GoesWithBook, after_edit}
+use Rattle.std.proofs.lemmas.Bool.{not-false}
+use Rattle.tree_commit.proofs.TableLemmas.{list_any-map, map-with_look}
 
 -- ---- lists
 
 -- what is among some is among more
 list_any-push : {A : Type 0} (test : A → Bool) (xs : List A) (x : A) → list_any test xs ≡ true → list_any test (xs ++ x ∷ []) ≡ true
 list_any-push test xs x h = list_any-append test xs (x ∷ []) ∙ ap (λ b. b || list_any test (x ∷ [])) h
-
--- a test of what is made of each
-list_any-map : {A B : Type 0} (f : A → B) (test : B → Bool) (xs : List A) → list_any test (map f xs) ≡ list_any (λ x. test (f x)) xs
-list_any-map f test [] = refl
-list_any-map f test (x ∷ xs) = ap (λ b. test (f x) || b) (list_any-map f test xs)
-
--- what is not denied
-is_so : (b : Bool) → not b ≡ false → b ≡ true
-is_so true h = refl
-is_so false h = sym h
 
 -- without the one of an id, and then the ids, or the other way round
 map-without : {A : Type 0} (id_of : A → ℕ) (id : ℕ) (xs : List A)
@@ -54,16 +45,6 @@ without-none test (x ∷ xs) =
     elim (test x) as (λ b. (b || list_any test xs) ≡ false → (if b then xs else x ∷ without test xs) ≡ x ∷ xs)
     [ true ↦ λ none. cc | false ↦ λ none. ap (λ rest. x ∷ rest) (without-none test xs none) ]
 
--- a changed look leaves the ids
-map-with_look : (id : ℕ) (change : Look → Look) (elements : List Element)
-    → map (λ element. element.id) (with_look id change elements) ≡ map (λ element. element.id) elements
-map-with_look id change [] = refl
-map-with_look id change (element ∷ elements) =
-    elim (nat_eq id element.id) as (λ b.
-    map (λ element. element.id) (if b then record element { look = change element.look } ∷ elements else element ∷ with_look id change elements)
-    ≡ map (λ element. element.id) (element ∷ elements))
-    [ true ↦ refl | false ↦ ap (λ ids. element.id ∷ ids) (map-with_look id change elements) ]
-
 -- an id that is pushed is there
 is_in-push : (ids : List ℕ) (id : ℕ) → is_in id (ids ++ id ∷ []) ≡ true
 is_in-push [] id = grind arith
@@ -73,7 +54,7 @@ is_in-push (other ∷ ids) id =
 -- ---- one edit
 
 module _ (edited : EditedTree) (goes : GoesWithBook edited) where
-  with_element : (id : ℕ) (look : Look) → GoesWithBook (after_edit edited (AddElement id look))
+  with_element : (id : ℕ) (look : Look) → GoesWithBook (after_edit edited (OnElements (AddElement id look)))
   unfolding tree_after book_after
   with_element id look = record {
     elements =
@@ -84,7 +65,7 @@ module _ (edited : EditedTree) (goes : GoesWithBook edited) where
     timelines_there = goes.timelines_there;
   }
 
-  without_element : (id : ℕ) → GoesWithBook (after_edit edited (RemoveElement id))
+  without_element : (id : ℕ) → GoesWithBook (after_edit edited (OnElements (RemoveElement id)))
   unfolding tree_after book_after
   without_element id = record {
     elements =
@@ -95,25 +76,16 @@ module _ (edited : EditedTree) (goes : GoesWithBook edited) where
     timelines_there = goes.timelines_there;
   }
 
-  with_opacity : (id opacity : ℕ) → GoesWithBook (after_edit edited (SetOpacity id opacity))
+  with_own : (id : ℕ) (value : PropertyValue) → GoesWithBook (after_edit edited (OnElements (SetOwn id value)))
   unfolding tree_after book_after
-  with_opacity id opacity = record {
-    elements = goes.elements ∙ sym (map-with_look id (λ look. record look { opacity = opacity }) edited.tree.elements);
+  with_own id value = record {
+    elements = goes.elements ∙ sym (map-with_look id (λ look. set_own look value) edited.tree.elements);
     timelines = goes.timelines;
     models_added = goes.models_added;
     timelines_there = goes.timelines_there;
   }
 
-  with_transform : (id : ℕ) (transform : List TransformOp) → GoesWithBook (after_edit edited (SetTransform id transform))
-  unfolding tree_after book_after
-  with_transform id transform = record {
-    elements = goes.elements ∙ sym (map-with_look id (λ look. record look { transform = transform }) edited.tree.elements);
-    timelines = goes.timelines;
-    models_added = goes.models_added;
-    timelines_there = goes.timelines_there;
-  }
-
-  with_timeline : (id origin : ℕ) → GoesWithBook (after_edit edited (AddTimeline id origin))
+  with_timeline : (id origin : ℕ) → GoesWithBook (after_edit edited (OnTimelines (AddTimeline id origin)))
   unfolding tree_after book_after
   with_timeline id origin =
       let clock : Clock = record { id = id; origin = origin } in
@@ -134,9 +106,9 @@ module _ (edited : EditedTree) (goes : GoesWithBook edited) where
   there_by_book id known =
       sym (list_any-map (λ clock. clock.id) (λ other. id == other) edited.tree.timelines)
       ∙ sym (ap (is_in id) goes.timelines)
-      ∙ is_so (is_in id edited.book.timelines) known
+      ∙ not-false (is_in id edited.book.timelines) known
 
-  with_model : (model : Spec) → edit_refusal edited.book (AddModel model) ≡ None → GoesWithBook (after_edit edited (AddModel model))
+  with_model : (model : Spec) → edit_refusal edited.book (OnModels (AddModel model)) ≡ None → GoesWithBook (after_edit edited (OnModels (AddModel model)))
   unfolding tree_after book_after
   with_model model allowed = record {
     elements = goes.elements;
@@ -152,7 +124,7 @@ module _ (edited : EditedTree) (goes : GoesWithBook edited) where
         (there_by_book model.timeline (known_timeline edited.book model allowed));
   }
 
-  without_model : (id : ℕ) → GoesWithBook (after_edit edited (RemoveModel id))
+  without_model : (id : ℕ) → GoesWithBook (after_edit edited (OnModels (RemoveModel id)))
   unfolding tree_after book_after
   without_model id = record {
     elements = goes.elements;
@@ -161,25 +133,34 @@ module _ (edited : EditedTree) (goes : GoesWithBook edited) where
     timelines_there = All-without (λ model. IsTrue (has_timeline edited.tree model.timeline)) (λ model. id == model.id) edited.tree.models goes.timelines_there;
   }
 
+  elements_kept : (change : ElementChange) → GoesWithBook (after_edit edited (OnElements change))
+  elements_kept (AddElement id look) = with_element id look
+  elements_kept (RemoveElement id) = without_element id
+  elements_kept (SetOwn id value) = with_own id value
+
+  timelines_kept : (change : TimelineChange) → GoesWithBook (after_edit edited (OnTimelines change))
+  timelines_kept (AddTimeline id origin) = with_timeline id origin
+
+  models_kept : (change : ModelChange) → edit_refusal edited.book (OnModels change) ≡ None → GoesWithBook (after_edit edited (OnModels change))
+  models_kept (AddModel model) allowed = with_model model allowed
+  models_kept (RemoveModel id) allowed = without_model id
+
   -- whichever it is
   pub kept_by_edit : (change : Change) → edit_refusal edited.book change ≡ None → GoesWithBook (after_edit edited change)
-  kept_by_edit (AddElement id look) allowed = with_element id look
-  kept_by_edit (RemoveElement id) allowed = without_element id
-  kept_by_edit (SetOpacity id opacity) allowed = with_opacity id opacity
-  kept_by_edit (SetTransform id transform) allowed = with_transform id transform
-  kept_by_edit (AddTimeline id origin) allowed = with_timeline id origin
-  kept_by_edit (AddModel model) allowed = with_model model allowed
-  kept_by_edit (RemoveModel id) allowed = without_model id
+  kept_by_edit (OnElements change) allowed = elements_kept change
+  kept_by_edit (OnTimelines change) allowed = timelines_kept change
+  kept_by_edit (OnModels change) allowed = models_kept change allowed
+
+-- a change of the models that does not find what it is about changes nothing
+models_after-lost : (edited : EditedTree) (change : ModelChange) → finds_its_model edited.tree change ≡ false → after_edit edited (OnModels change) ≡ edited
+unfolding tree_after book_after
+models_after-lost edited (AddModel model) lost = cc
+models_after-lost edited (RemoveModel id) lost = λ i. record edited {
+  tree = record edited.tree { models = without-none (λ model. id == model.id) edited.tree.models lost i };
+}
 
 -- an edit that does not find what it is about changes nothing
 pub after_edit-lost : (edited : EditedTree) (change : Change) → finds_its_target edited.tree change ≡ false → after_edit edited change ≡ edited
-unfolding tree_after book_after
-after_edit-lost edited (AddElement id look) lost = cc
-after_edit-lost edited (RemoveElement id) lost = cc
-after_edit-lost edited (SetOpacity id opacity) lost = cc
-after_edit-lost edited (SetTransform id transform) lost = cc
-after_edit-lost edited (AddTimeline id origin) lost = cc
-after_edit-lost edited (AddModel model) lost = cc
-after_edit-lost edited (RemoveModel id) lost = λ i. record edited {
-  tree = record edited.tree { models = without-none (λ model. id == model.id) edited.tree.models lost i };
-}
+after_edit-lost edited (OnElements change) lost = cc
+after_edit-lost edited (OnTimelines change) lost = cc
+after_edit-lost edited (OnModels change) lost = models_after-lost edited change lost

@@ -7,7 +7,7 @@ use Rattle.keyframe_model.specs.Models.{Spec}
 use Rattle.tree_commit.specs.declared.base.Base.{Base}
 use Rattle.tree_commit.specs.Trees.{TreeLists, empty_tree}
 use Rattle.tree_commit.specs.Edits.{Change, Book, new_book, is_in, tree_after, book_after, book_after_commit}
-use Rattle.tree_commit.specs.Runs.{tree_after_hearing}
+use Rattle.run_rules.specs.Runs.{tree_after_hearing}
 use Rattle.tree_commit.specs.Tables.{tree_of, HasAllTimelines}
 
 -- ---- the tree and its book

@@ -1,8 +1,12 @@
+//! Main's tree: what each edit, each commit step and each event that main hears does to it. An edit that its book
+//! refuses changes nothing.
+
 ghost use Rattle.std.specs.Prelude.{◌≡◌, ◌==◌, ◌<◌, ◌≤◌, false, None, map, option_map, IfOk, OnOk, OnErr};
 ghost use Rattle.std.specs.Result.{result_err};
-ghost use Rattle.tree_commit.specs.Trees.{has_model, model_with, next_commit};
-ghost use Rattle.tree_commit.specs.Runs.{model_of_event, retires};
-ghost use Rattle.tree_commit.specs.Edits.{AddElement, AddModel, AddTimeline, RemoveElement, RemoveModel, SetOpacity, SetTransform, edit_refusal, finds_its_target, refusal_in, with_look, without};
+ghost use Rattle.keyframe_model.specs.Views.{shared_value_of};
+ghost use Rattle.tree_commit.specs.Trees.{has_model, model_with, next_commit, set_own};
+ghost use Rattle.run_rules.specs.Runs.{model_of_event, retires};
+ghost use Rattle.tree_commit.specs.Edits.{AddElement, AddModel, AddTimeline, OnElements, OnModels, OnTimelines, RemoveElement, RemoveModel, SetOwn, edit_refusal, finds_its_target, refusal_in, with_look, without};
 ghost use Rattle.tree_commit.specs.Tables.{element_of};
 ghost use Rattle.tree_commit.specs.Views.{change_of, look_of};
 
@@ -11,13 +15,11 @@ use anim_names::limit::MOST_COMMITS;
 use anim_names::{AnimEvent, ElementId, ModelId, TimelineId};
 use anim_timeline::Timeline;
 use indexmap::IndexMap;
-use keyframe_model::ModelSpec;
+use keyframe_model::{ModelSpec, SharedValue};
 use std::alloc::{AllocError, Global};
 use std::marker::Model;
 use std::sync::Arc;
-use transform_ops::TransformList;
 use tree_commit::{Base, Commit, Edit, EditBook, EditFault};
-use value_blend::Opacity;
 
 /// Main's tree: elements, keyframe models and timelines, each in order of insertion, and the book that edits of them
 /// are checked against.
@@ -160,12 +162,8 @@ impl MainTree {
                 self.remove_element(edit, *id)?;
                 Ok(true)
             }
-            Edit::SetOpacity { id, opacity } => {
-                self.set_opacity(*id, *opacity);
-                Ok(true)
-            }
-            Edit::SetTransform { id, transform } => {
-                self.set_transform(*id, transform)?;
+            Edit::SetOwn { id, value } => {
+                self.set_own(*id, value.clone()?);
                 Ok(true)
             }
             Edit::AddTimeline { id, timeline } => {
@@ -181,7 +179,7 @@ impl MainTree {
     }
 
     fn add_element(&mut self, edit: &Edit, id: ElementId, base: &Base) -> Result<(), AllocError>
-        requires is_this { change_of edit.now ≡ AddElement id (look_of base.now) }
+        requires is_this { change_of edit.now ≡ OnElements (AddElement id (look_of base.now)) }
         requires allowed { edit_refusal self.old.book (change_of edit.now) ≡ None }
         ensures made { OnOk result (self.new ≡ after_edit self.old (change_of edit.now)) }
         ensures err { OnErr result (self.new ≡ self.old) }
@@ -194,7 +192,7 @@ impl MainTree {
     }
 
     fn remove_element(&mut self, edit: &Edit, id: ElementId) -> Result<(), AllocError>
-        requires is_this { change_of edit.now ≡ RemoveElement id }
+        requires is_this { change_of edit.now ≡ OnElements (RemoveElement id) }
         requires allowed { edit_refusal self.old.book (change_of edit.now) ≡ None }
         ensures made { OnOk result (self.new ≡ after_edit self.old (change_of edit.now)) }
         ensures err { OnErr result (self.new ≡ self.old) }
@@ -204,25 +202,11 @@ impl MainTree {
         Ok(())
     }
 
-    fn set_opacity(&mut self, id: ElementId, opacity: Opacity)
-        requires { edit_refusal self.old.book (SetOpacity id opacity) ≡ None }
-        ensures { self.new ≡ after_edit self.old (SetOpacity id opacity) }
+    fn set_own(&mut self, id: ElementId, value: SharedValue)
+        requires { edit_refusal self.old.book (OnElements (SetOwn id (shared_value_of value))) ≡ None }
+        ensures { self.new ≡ after_edit self.old (OnElements (SetOwn id (shared_value_of value))) }
     {
-        change_opacity(&mut self.elements, id, opacity);
-    }
-
-    fn set_transform(
-        &mut self,
-        id: ElementId,
-        transform: &Arc<TransformList>,
-    ) -> Result<(), AllocError>
-        requires { edit_refusal self.old.book (SetTransform id transform.now.value) ≡ None }
-        ensures made { OnOk result (self.new ≡ after_edit self.old (SetTransform id transform.now.value)) }
-        ensures err { OnErr result (self.new ≡ self.old) }
-    {
-        let transform = transform.clone()?;
-        change_transform(&mut self.elements, id, transform);
-        Ok(())
+        change_own(&mut self.elements, id, value);
     }
 
     fn add_timeline(
@@ -231,7 +215,7 @@ impl MainTree {
         id: TimelineId,
         timeline: Timeline,
     ) -> Result<(), AllocError>
-        requires is_this { change_of edit.now ≡ AddTimeline id timeline }
+        requires is_this { change_of edit.now ≡ OnTimelines (AddTimeline id timeline) }
         requires allowed { edit_refusal self.old.book (change_of edit.now) ≡ None }
         ensures made { OnOk result (self.new ≡ after_edit self.old (change_of edit.now)) }
         ensures err { OnErr result (self.new ≡ self.old) }
@@ -243,7 +227,7 @@ impl MainTree {
     }
 
     fn add_model(&mut self, edit: &Edit, spec: &Arc<ModelSpec>) -> Result<(), AllocError>
-        requires is_this { change_of edit.now ≡ AddModel spec.now.value }
+        requires is_this { change_of edit.now ≡ OnModels (AddModel spec.now.value) }
         requires allowed { edit_refusal self.old.book (change_of edit.now) ≡ None }
         ensures made { OnOk result (self.new ≡ after_edit self.old (change_of edit.now)) }
         ensures err { OnErr result (self.new ≡ self.old) }
@@ -257,8 +241,8 @@ impl MainTree {
 
     // Removes a model, and says whether it was there.
     fn remove_model(&mut self, id: ModelId) -> bool
-        requires { edit_refusal self.old.book (RemoveModel id) ≡ None }
-        ensures made { self.new ≡ after_edit self.old (RemoveModel id) }
+        requires { edit_refusal self.old.book (OnModels (RemoveModel id)) ≡ None }
+        ensures made { self.new ≡ after_edit self.old (OnModels (RemoveModel id)) }
         ensures found { result ≡ has_model self.old.tree id }
     {
         self.models.shift_remove(&id).is_some()
@@ -284,26 +268,13 @@ fn take_out(elements: &mut IndexMap<ElementId, Base>, id: ElementId)
     elements.shift_remove(&id);
 }
 
+// Gives an element another value of its own, where it is there.
 #[tactic(auto, using(crate::proofs::TableEdits::looks))]
-fn change_opacity(elements: &mut IndexMap<ElementId, Base>, id: ElementId, opacity: Opacity)
+fn change_own(elements: &mut IndexMap<ElementId, Base>, id: ElementId, value: SharedValue)
     ensures { map element_of elements.new.entries
-        ≡ with_look id (λ look. record look { opacity = opacity }) (map element_of elements.old.entries) }
+        ≡ with_look id (λ look. set_own look (shared_value_of value)) (map element_of elements.old.entries) }
 {
     if let Some(base) = elements.get_mut(&id) {
-        base.opacity = opacity;
-    }
-}
-
-#[tactic(auto, using(crate::proofs::TableEdits::looks))]
-fn change_transform(
-    elements: &mut IndexMap<ElementId, Base>,
-    id: ElementId,
-    transform: Arc<TransformList>,
-)
-    ensures { map element_of elements.new.entries
-        ≡ with_look id (λ look. record look { transform = transform.value }) (map element_of elements.old.entries) }
-{
-    if let Some(base) = elements.get_mut(&id) {
-        base.transform = transform;
+        base.set_own(value);
     }
 }

@@ -1,3 +1,5 @@
+//! The directions of an animation, and which iterations run backwards in each.
+
 ghost use Rattle.std.specs.Prelude.{◌≡◌};
 ghost use Rattle.micro_time.specs.Timings.{is_backwards};
 

@@ -1,3 +1,6 @@
+//! The causes for which numbers are refused as a timing: the first field that is out of range, or endless iterations
+//! at a negative rate.
+
 use thiserror::Error;
 
 /// A number of a timing, in the order in which they are judged.

@@ -1,3 +1,5 @@
+//! The fill modes, and the phases outside of the iterations in which each shows a value.
+
 ghost use Rattle.std.specs.Prelude.{◌≡◌};
 ghost use Rattle.micro_time.specs.Timings.{is_shown_in};
 

@@ -1,3 +1,5 @@
+//! How many iterations an animation has: a number of thousandths, or without end.
+
 /// How often the curve is run through.
 #[derive(Clone, Copy, PartialEq, Eq)]
 pub enum Iterations {

@@ -1,3 +1,6 @@
+//! The parts of a timing, and the way from a local time to a time of the curve: elapsed time, progress, iteration,
+//! place in it. Only the last step rounds.
+
 ghost use Rattle.std.specs.Prelude.{◌≡◌, ◌+◌, ◌*◌, ◌^◌, ◌<◌, ◌≤◌, unsigned_abs, IfOk, IfSome};
 ghost use Rattle.std.specs.Result.{result_err};
 ghost use Rattle.micro_time.specs.declared.TheConstants.{LARGEST_LOCAL};

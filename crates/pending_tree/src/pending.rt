@@ -1,3 +1,6 @@
+//! The place of the one commit that waits for its activation. A commit is put in and taken out, and nothing is read
+//! of it.
+
 ghost use Rattle.std.specs.Prelude.{◌≡◌, None, Some, is_some, option_map};
 
 use std::marker::Model;

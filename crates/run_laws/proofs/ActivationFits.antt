@@ -4,36 +4,38 @@ use Rattle.std.specs.List.{list_any}
 use Rattle.std.proofs.lemmas.Bool.{false≢true, and_parts, and_from, or_cases, or_left, or_right, eqb-true, eq-eqb, not-true, not_from_false, true_from_ne_false}
 use Rattle.std.proofs.lemmas.List.Folds.{list_any-append}
 use Rattle.keyframe_model.specs.Models.{Spec}
-use Rattle.tree_commit.specs.declared.runs.mark.Mark.{Mark}
-use Rattle.tree_commit.specs.declared.runs.mark.Mark.TheVariants.{Aborted}
+use Rattle.run_rules.specs.declared.mark.Mark.{Mark}
+use Rattle.run_rules.specs.declared.mark.Mark.TheVariants.{OfModel}
+use Rattle.run_rules.specs.declared.mark.ModelMark.TheVariants.{Aborted}
 use Rattle.tree_commit.specs.Trees.{TreeLists, Committed, has_model, has_element}
-use Rattle.tree_commit.specs.Marks.{model_of, starts, ends, starts_in, is_started, is_ended, is_running, is_group_running, is_lost, lost_models, marks_of_activation}
-use Rattle.tree_commit.specs.Follows.{IsAmong}
+use Rattle.run_rules.specs.Marks.{model_of, starts, ends, starts_in, is_started, is_ended, is_unfinished, is_group_unfinished, is_lost, lost_models, marks_of_activation, is_end}
+use Rattle.run_rules.proofs.MarkLemmas.{says-model}
+use Rattle.anim_names.specs.Lists.{IsAmong}
 use Rattle.run_laws.specs.Ends.{finishes, is_finished}
 use Rattle.tree_commit.proofs.Among.{among-append_cases, among-map, among-map_cases, among-filter, among-filter_from, any-among, any-cases, any-none}
 use Rattle.run_laws.proofs.Births.{Birth, birth, AreOfOneScript}
 use Rattle.run_laws.proofs.Lines.{FitsBirths, Precedes}
-use Rattle.run_laws.proofs.MarkFacts.{any-more, any-same, apart-filter, AreInOrder, order-append, order-apart, ends-about, blocks-before, finished-mark, finished-from, start-before, still-idle}
-use Rattle.run_laws.proofs.MarksFit.{IsAbout, IsOfBirth, MarksFit, about-group, of_same_model, model_there}
+use Rattle.run_laws.proofs.MarkFacts.{any-more, any-same, apart-filter, AreInOrder, order-append, order-apart, blocks-before, finished-mark, finished-from, start-before, still-idle}
+use Rattle.run_laws.proofs.MarksFit.{IsAbout, IsOfBirth, MarksFitBirths, about-group, of_same_model, model_there}
 use Rattle.run_laws.proofs.FinishFits.{IsEnd, AreEnds, none_start_in, ends_alike, ran_before, running-parts}
 
 -- an abort is that of a model that is lost
-pub abort-mark : (active : TreeLists) (new : Committed) (marks : List Mark) (mark : Mark) → IsAmong mark (marks_of_activation active new marks) → (model : Spec) × IsAmong model active.models × (is_lost new.tree marks model ≡ true) × (mark ≡ Aborted model.id new.number)
+pub abort-mark : (active : TreeLists) (new : Committed) (marks : List Mark) (mark : Mark) → IsAmong mark (marks_of_activation active new marks) → (model : Spec) × IsAmong model active.models × (is_lost new.tree marks model ≡ true) × (mark ≡ OfModel model.id (Aborted new.number))
 unfolding marks_of_activation
 abort-mark active new marks mark h =
-    let found = among-map_cases (λ model. Aborted model.id new.number) mark (lost_models active new.tree marks) h in
+    let found = among-map_cases (λ model. OfModel model.id (Aborted new.number)) mark (lost_models active new.tree marks) h in
     let parts = among-filter (is_lost new.tree marks) found.0 active.models found.1 in
     (found.0, parts.0, parts.1, found.2)
 
 abort-ends : (active : TreeLists) (new : Committed) (marks : List Mark) → AreEnds (marks_of_activation active new marks)
-abort-ends active new marks mark a = subst (λ m. IsEnd m) (sym (abort-mark active new marks mark a).3) tt
+abort-ends active new marks mark a = subst (λ m. IsEnd m) (sym (abort-mark active new marks mark a).3) refl
 
 -- a lost model is marked as aborted
 abort-from : (active : TreeLists) (new : Committed) (marks : List Mark) (model : Spec) → IsAmong model active.models → is_lost new.tree marks model ≡ true → list_any (ends model.id) (marks_of_activation active new marks) ≡ true
 unfolding marks_of_activation
 abort-from active new marks model there lost =
-    any-among (ends model.id) (Aborted model.id new.number) (map (λ model. Aborted model.id new.number) (lost_models active new.tree marks))
-    (among-map (λ model. Aborted model.id new.number) model (lost_models active new.tree marks)
+    any-among (ends model.id) (OfModel model.id (Aborted new.number)) (map (λ model. OfModel model.id (Aborted new.number)) (lost_models active new.tree marks))
+    (among-map (λ model. OfModel model.id (Aborted new.number)) model (lost_models active new.tree marks)
     (among-filter_from (is_lost new.tree marks) model active.models there lost))
     (eq-eqb model.id model.id refl)
 
@@ -43,7 +45,7 @@ lost-unended new marks model lost = (and_parts (not (is_ended marks model.id)) _
 abort-order : (active : Committed) (new : Committed) (marks : List Mark) (born : List Birth) → FitsBirths born active → AreInOrder marks (marks_of_activation active.tree new marks)
 unfolding marks_of_activation
 abort-order active new marks born fits =
-    order-apart marks (λ model. Aborted model.id new.number) (λ model. refl) (lost_models active.tree new.tree marks) (apart-filter _ active.tree.models fits.apart)
+    order-apart marks (λ model. OfModel model.id (Aborted new.number)) (λ model. refl) (lost_models active.tree new.tree marks) (apart-filter _ active.tree.models fits.apart)
     (λ model a. lost-unended new.tree marks model (among-filter (is_lost new.tree marks) model active.tree.models a).1)
 
 -- no finish is among aborts
@@ -67,7 +69,7 @@ group-stays born active new mark model script fits goes whose there in_group =
     let mates = script.mates (birth whose.model whose.before) (birth model when.0) whose.among when.1 (sym (about-group whose.model mark model.group whose.about in_group)) in
     goes.stays model when.0 there when.1 (subst (λ n. n < active.number) (sym mates.before) whose.under)
 
-pub abort_fits : (born : List Birth) (active new : Committed) (marks : List Mark) → AreOfOneScript born → FitsBirths born active → FitsBirths born new → Precedes born active new → MarksFit born active marks → MarksFit born new (marks ++ marks_of_activation active.tree new marks)
+pub abort_fits : (born : List Birth) (active new : Committed) (marks : List Mark) → AreOfOneScript born → FitsBirths born active → FitsBirths born new → Precedes born active new → MarksFitBirths born active marks → MarksFitBirths born new (marks ++ marks_of_activation active.tree new marks)
 abort_fits born active new marks script fits fits_new goes h = record {
   of_births = λ mark a. of_births mark (among-append_cases mark marks lost a);
   order = order-append [] marks lost h.order (abort-order active new marks born fits);
@@ -94,9 +96,9 @@ abort_fits born active new marks script fits fits_new goes h = record {
         let found = abort-mark active.tree new marks mark a in
         let when = fits.born_before found.0 found.1 in
         let less : active.number < new.number = goes.number in
-        record { model = found.0; before = when.0; among = when.1; under = omega (arith, when.2, less); about = subst (λ m. IsAbout found.0 m) (sym found.3) refl }
+        record { model = found.0; before = when.0; among = when.1; under = omega (arith, when.2, less); about = subst (λ m. IsAbout found.0 m) (sym found.3) (refl, tt) }
 
-    running : (id : ℕ) → is_running (marks ++ lost) id ≡ true → has_model new.tree id ≡ false → ⊥
+    running : (id : ℕ) → is_unfinished (marks ++ lost) id ≡ true → has_model new.tree id ≡ false → ⊥
     running id runs gone =
         let ran = ran_before marks lost id ending runs in
         let there = model_there active.tree id (h.running id ran) in
@@ -110,13 +112,13 @@ abort_fits born active new marks script fits fits_new goes h = record {
     ended : (model : Spec) → IsAmong model new.tree.models → (is_ended marks model.id ≡ true) ⊎ (list_any (ends model.id) lost ≡ true) → is_started marks model.id ≡ true
     ended model a (inl over) =
         let found = any-cases (ends model.id) marks over in
-        h.ended model (marked-stays born active new found.0 model script fits_new goes (h.of_births found.0 found.1) a (sym (ends-about model.id found.0 found.2))) over
+        h.ended model (marked-stays born active new found.0 model script fits_new goes (h.of_births found.0 found.1) a (sym (says-model is_end model.id found.0 found.2))) over
     ended model a (inr over) = go (or_cases _ _ (and_parts (not (is_ended marks done.0.id)) _ done.2).1)
       where
         found : (x : Mark) × IsAmong x lost × (ends model.id x ≡ true)
         found = any-cases (ends model.id) lost over
 
-        done : (model : Spec) × IsAmong model active.tree.models × (is_lost new.tree marks model ≡ true) × (found.0 ≡ Aborted model.id new.number)
+        done : (model : Spec) × IsAmong model active.tree.models × (is_lost new.tree marks model ≡ true) × (found.0 ≡ OfModel model.id (Aborted new.number))
         done = abort-mark active.tree new marks found.0 found.1
 
         same : model.id ≡ done.0.id
@@ -134,7 +136,7 @@ abort_fits born active new marks script fits fits_new goes h = record {
         let found = any-cases (starts_in model.group) marks started in
         h.grouped model (group-stays born active new found.0 model script fits_new goes (h.of_births found.0 found.1) a found.2) started
 
-    idle : (group : ℕ) → (mark : Mark) × IsAmong mark (marks ++ lost) × (starts_in group mark ≡ true) × (is_finished (marks ++ lost) (model_of mark) ≡ true) → is_group_running (marks ++ lost) group ≡ false
+    idle : (group : ℕ) → (mark : Mark) × IsAmong mark (marks ++ lost) × (starts_in group mark ≡ true) × (is_finished (marks ++ lost) (model_of mark) ≡ true) → is_group_unfinished (marks ++ lost) group ≡ false
     idle group (mark, a, in_group, done) =
         let here = start-before group marks lost mark (none_start_in lost group ending) a in_group in
         let old = sym (any-same (finishes (model_of mark)) marks lost (none_finishes active.tree new marks (model_of mark))) ∙ done in

@@ -6,22 +6,19 @@ use Rattle.std.proofs.lemmas.List.{length-append}
 use Rattle.std.proofs.lemmas.List.Folds.{list_any-append}
 use Rattle.anim_names.specs.declared.limit.TheConstants.{MOST_MODELS}
 use Rattle.keyframe_model.specs.Models.{Spec}
-use Rattle.tree_commit.specs.Edits.{Change, AddElement, RemoveElement, SetOpacity, SetTransform, AddTimeline, AddModel, RemoveModel, Book, is_in, without, edit_refusal, book_after, book_after_commit}
-use Rattle.tree_commit.specs.Scripts.{StepOfMain, EditStep, CommitStep, DrainStep, is_allowed, are_allowed, book_after_step}
-use Rattle.tree_commit.specs.Follows.{AreDistinct, IsAmong}
-use Rattle.run_laws.proofs.Births.{Birth, birth, births, births_of-cases, accepted, commits-edit}
+use Rattle.tree_commit.specs.Edits.{OnModels, OnTimelines, OnElements, Change, AddTimeline, AddModel, RemoveModel, Book, is_in, without, edit_refusal, book_after, book_after_commit}
+use Rattle.run_rules.specs.Scripts.{StepOfMain, EditStep, CommitStep, DrainStep, is_allowed, are_allowed, book_after_step}
+use Rattle.anim_names.specs.Lists.{AreDistinct, IsAmong}
+use Rattle.run_laws.proofs.Births.{Birth, birth, births, births_of-cases, accepted, commits-edit, keeps-elements}
 
 -- ---- ids stay
 
 edit_keeps_id : (book : Book) (change : Change) (id : ℕ) → is_in id book.models ≡ true → is_in id (book_after book change).models ≡ true
 unfolding book_after
-edit_keeps_id book (AddElement key look) id h = h
-edit_keeps_id book (RemoveElement key) id h = h
-edit_keeps_id book (SetOpacity key opacity) id h = h
-edit_keeps_id book (SetTransform key transform) id h = h
-edit_keeps_id book (AddTimeline key origin) id h = h
-edit_keeps_id book (AddModel model) id h = list_any-append (λ other. id == other) book.models (model.id ∷ []) ∙ or_left _ _ h
-edit_keeps_id book (RemoveModel key) id h = h
+edit_keeps_id book (OnElements elements) id h = keeps-elements (λ after. is_in id after.models ≡ true) book elements (λ ids added. h)
+edit_keeps_id book (OnTimelines (AddTimeline key origin)) id h = h
+edit_keeps_id book (OnModels (AddModel model)) id h = list_any-append (λ other. id == other) book.models (model.id ∷ []) ∙ or_left _ _ h
+edit_keeps_id book (OnModels (RemoveModel key)) id h = h
 
 steps_keep_id : (book : Book) (steps : List StepOfMain) (id : ℕ) → is_in id book.models ≡ true → is_in id (fold book_after_step book steps).models ≡ true
 steps_keep_id book [] id h = h
@@ -29,7 +26,7 @@ steps_keep_id book (EditStep change ∷ steps) id h = steps_keep_id (book_after 
 steps_keep_id book (CommitStep ∷ steps) id h = steps_keep_id (book_after_commit book) steps id h
 steps_keep_id book (DrainStep ∷ steps) id h = steps_keep_id book steps id h
 
-added_id : (book : Book) (model : Spec) → is_in model.id (book_after book (AddModel model)).models ≡ true
+added_id : (book : Book) (model : Spec) → is_in model.id (book_after book (OnModels (AddModel model))).models ≡ true
 unfolding book_after
 added_id book model =
     list_any-append (λ other. model.id == other) book.models (model.id ∷ [])
@@ -42,7 +39,7 @@ born_added book (EditStep change ∷ steps) b h =
     go (births_of-cases book.commits change (births book.commits steps) b h)
     (λ behind. born_added (book_after book change) steps b (subst (λ n. IsAmong b (births n steps)) (sym (commits-edit book change)) behind))
   where
-    go : ((model : Spec) × (change ≡ AddModel model) × (b ≡ birth model book.commits)) ⊎ IsAmong b (births book.commits steps) → (IsAmong b (births book.commits steps) → is_in b.model.id (fold book_after_step (book_after book change) steps).models ≡ true) → is_in b.model.id (fold book_after_step (book_after book change) steps).models ≡ true
+    go : ((model : Spec) × (change ≡ OnModels (AddModel model)) × (b ≡ birth model book.commits)) ⊎ IsAmong b (births book.commits steps) → (IsAmong b (births book.commits steps) → is_in b.model.id (fold book_after_step (book_after book change) steps).models ≡ true) → is_in b.model.id (fold book_after_step (book_after book change) steps).models ≡ true
     go (inl (model, same, e)) rest =
         let here : is_in model.id (book_after book change).models ≡ true = subst (λ c. is_in model.id (book_after book c).models ≡ true) (sym same) (added_id book model) in
         steps_keep_id (book_after book change) steps b.model.id (subst (λ x. is_in x.model.id (book_after book change).models ≡ true) (sym e) here)
@@ -54,16 +51,13 @@ born_added book (DrainStep ∷ steps) b h = born_added book steps b h
 
 room_edit : (book : Book) (change : Change) → is_none (edit_refusal book change) ≡ true → length book.models ≤ MOST_MODELS → length (book_after book change).models ≤ MOST_MODELS
 unfolding book_after
-room_edit book (AddElement key look) allowed h = h
-room_edit book (RemoveElement key) allowed h = h
-room_edit book (SetOpacity key opacity) allowed h = h
-room_edit book (SetTransform key transform) allowed h = h
-room_edit book (AddTimeline key origin) allowed h = h
-room_edit book (AddModel model) allowed h =
+room_edit book (OnElements elements) allowed h = keeps-elements (λ after. length after.models ≤ MOST_MODELS) book elements (λ ids added. h)
+room_edit book (OnTimelines (AddTimeline key origin)) allowed h = h
+room_edit book (OnModels (AddModel model)) allowed h =
     let room : length book.models < MOST_MODELS = leb-false MOST_MODELS (length book.models) (accepted book model allowed).room in
     let longer : length (book.models ++ model.id ∷ []) ≡ length book.models + 1 = length-append book.models (model.id ∷ []) in
     omega (arith, room, longer)
-room_edit book (RemoveModel key) allowed h = h
+room_edit book (OnModels (RemoveModel key)) allowed h = h
 
 pub room_steps : (book : Book) (steps : List StepOfMain) → are_allowed book steps ≡ true → length book.models ≤ MOST_MODELS → length (fold book_after_step book steps).models ≤ MOST_MODELS
 unfolding are_allowed

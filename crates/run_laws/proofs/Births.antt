@@ -9,11 +9,12 @@ use Rattle.std.proofs.lemmas.Option.{none-some}
 use Rattle.anim_names.specs.declared.limit.TheConstants.{MOST_MODELS}
 use Rattle.anim_names.specs.declared.property.Property.{Property}
 use Rattle.anim_names.specs.declared.property.Property.TheVariants.{Opacity, Transform}
-use Rattle.keyframe_model.specs.Models.{Spec, property_of, same_property}
+use Rattle.anim_names.specs.Properties.{is_property}
+use Rattle.keyframe_model.specs.Models.{Spec, property_of}
 use Rattle.tree_commit.specs.declared.edits.refusal.EditRefusal.{EditRefusal}
-use Rattle.tree_commit.specs.Edits.{Change, AddElement, RemoveElement, SetOpacity, SetTransform, AddTimeline, AddModel, RemoveModel, GroupParts, Book, new_book, is_in, parts_of, is_closed, is_mixed, model_refusal, edit_refusal, new_parts, with_property, with_member, book_after, book_after_commit}
-use Rattle.tree_commit.specs.Scripts.{StepOfMain, EditStep, CommitStep, DrainStep, are_allowed, is_allowed}
-use Rattle.tree_commit.specs.Follows.{IsAmong}
+use Rattle.tree_commit.specs.Edits.{OnModels, OnTimelines, OnElements, Change, AddElement, RemoveElement, AddTimeline, AddModel, RemoveModel, GroupParts, Book, new_book, is_in, parts_of, is_closed, is_mixed, model_refusal, edit_refusal, new_parts, with_property, with_member, book_after, book_after_commit, SetOwn, ElementChange, book_after_elements}
+use Rattle.run_rules.specs.Scripts.{StepOfMain, EditStep, CommitStep, DrainStep, are_allowed, is_allowed}
+use Rattle.anim_names.specs.Lists.{IsAmong}
 
 -- ---- births
 
@@ -27,13 +28,10 @@ birth model before = record { model = model; before = before }
 
 -- the births of an edit, before those of the steps behind it
 abbrev pub births_of : ℕ → Change → List Birth → List Birth
-births_of commits (AddElement id look) behind = behind
-births_of commits (RemoveElement id) behind = behind
-births_of commits (SetOpacity id opacity) behind = behind
-births_of commits (SetTransform id transform) behind = behind
-births_of commits (AddTimeline id origin) behind = behind
-births_of commits (AddModel model) behind = birth model commits ∷ behind
-births_of commits (RemoveModel id) behind = behind
+births_of commits (OnElements elements) behind = behind
+births_of commits (OnTimelines timelines) behind = behind
+births_of commits (OnModels (AddModel model)) behind = birth model commits ∷ behind
+births_of commits (OnModels (RemoveModel id)) behind = behind
 
 -- the births of these steps, where this many commits came before them
 abbrev pub births : ℕ → List StepOfMain → List Birth
@@ -50,7 +48,7 @@ pub record AreMates (one other : Birth) : Type 0 where
   pub element : other.model.element ≡ one.model.element
   pub timeline : other.model.timeline ≡ one.model.timeline
   pub start : other.model.start ≡ one.model.start
-  pub property : same_property (property_of other.model) (property_of one.model) ≡ true → other.model.id ≡ one.model.id
+  pub property : is_property (property_of other.model) (property_of one.model) ≡ true → other.model.id ≡ one.model.id
 
 -- Of these births each has an id of its own, and those of a group are mates.
 pub record AreOfOneScript (born : List Birth) : Type 0 where
@@ -59,11 +57,11 @@ pub record AreOfOneScript (born : List Birth) : Type 0 where
 
 -- ---- equal parts
 
-same_property-sym : (p q : Property) → same_property p q ≡ true → same_property q p ≡ true
-same_property-sym Opacity Opacity h = refl
-same_property-sym Opacity Transform h = absurd (false≢true h)
-same_property-sym Transform Opacity h = absurd (false≢true h)
-same_property-sym Transform Transform h = refl
+is_property-sym : (p q : Property) → is_property p q ≡ true → is_property q p ≡ true
+is_property-sym Opacity Opacity h = refl
+is_property-sym Opacity Transform h = absurd (false≢true h)
+is_property-sym Transform Opacity h = absurd (false≢true h)
+is_property-sym Transform Transform h = refl
 
 some_same : {A : Type 0} (x y : A) → Some x ≡ Some y → x ≡ y
 some_same x y e = ap (λ o. unwrap_or o x) e
@@ -83,7 +81,7 @@ mates_both_ways b c h = record {
   element = sym h.element;
   timeline = sym h.timeline;
   start = sym h.start;
-  property = λ same. sym (h.property (same_property-sym _ _ same));
+  property = λ same. sym (h.property (is_property-sym _ _ same));
 }
 
 -- ---- an edit that is not refused
@@ -99,7 +97,7 @@ pub record IsAccepted (book : Book) (model : Spec) : Type 0 where
   pub alike : is_mixed model.element model.timeline model.start (property_of model) (parts_of book model.group) ≡ false
   pub room : nat_le MOST_MODELS (length book.models) ≡ false
 
-pub accepted : (book : Book) (model : Spec) → is_none (edit_refusal book (AddModel model)) ≡ true → IsAccepted book model
+pub accepted : (book : Book) (model : Spec) → is_none (edit_refusal book (OnModels (AddModel model))) ≡ true → IsAccepted book model
 unfolding edit_refusal model_refusal
 accepted book model h =
     let first = not_refused (is_in model.id book.models) _ _ h in
@@ -123,7 +121,7 @@ pub record Joins (parts : GroupParts) (b : Birth) : Type 0 where
   pub element : b.model.element ≡ parts.element
   pub timeline : b.model.timeline ≡ parts.timeline
   pub start : b.model.start ≡ parts.start
-  pub property : list_any (same_property (property_of b.model)) parts.properties ≡ false
+  pub property : list_any (is_property (property_of b.model)) parts.properties ≡ false
 
 -- the birth is of a step that is still to come
 pub record IsLater (book : Book) (b : Birth) : Type 0 where
@@ -189,12 +187,12 @@ joins_before p parts b h = record {
   element = h.element;
   timeline = h.timeline;
   start = h.start;
-  property = (or_parts (list_any (same_property (property_of b.model)) parts.properties) _ (sym (list_any-append (same_property (property_of b.model)) parts.properties (p ∷ [])) ∙ h.property)).0;
+  property = (or_parts (list_any (is_property (property_of b.model)) parts.properties) _ (sym (list_any-append (is_property (property_of b.model)) parts.properties (p ∷ [])) ∙ h.property)).0;
 }
 
 -- ---- back over one step
 
-later-model : (book : Book) (m : Spec) (b : Birth) → IsLater (book_after book (AddModel m)) b → IsLater book b
+later-model : (book : Book) (m : Spec) (b : Birth) → IsLater (book_after book (OnModels (AddModel m))) b → IsLater book b
 unfolding book_after grown
 later-model book m b h = record {
   fresh = (or_parts (is_in b.model.id book.models) _ (sym (list_any-append (λ other. b.model.id == other) book.models (m.id ∷ [])) ∙ h.fresh)).0;
@@ -210,39 +208,37 @@ later-model book m b h = record {
         joins_before (property_of m) parts b (h.joins (with_property (property_of m) parts) (subst (λ g. find (λ parts. g == parts.group) (with_member book.commits m book.groups) ≡ Some (with_property (property_of m) parts)) (sym equal) there))
     go parts e false other = h.joins parts (member-other b.model.group book.commits m other book.groups ∙ e)
 
+-- a change of the elements leaves all else of a book
+pub keeps-elements : (P : Book → Type 0) (book : Book) (change : ElementChange) → ((ids : List ℕ) (added : ℕ) → P (record book { elements = ids; elements_added = added })) → P (book_after_elements book change)
+keeps-elements P book (AddElement id look) all = all _ _
+keeps-elements P book (RemoveElement id) all = all _ book.elements_added
+keeps-elements P book (SetOwn id value) all = all book.elements book.elements_added
+
 later-edit : (book : Book) (change : Change) (b : Birth) → IsLater (book_after book change) b → IsLater book b
 unfolding book_after
-later-edit book (AddElement id look) b h = record { fresh = h.fresh; since = h.since; joins = h.joins }
-later-edit book (RemoveElement id) b h = record { fresh = h.fresh; since = h.since; joins = h.joins }
-later-edit book (SetOpacity id opacity) b h = h
-later-edit book (SetTransform id transform) b h = h
-later-edit book (AddTimeline id origin) b h = record { fresh = h.fresh; since = h.since; joins = h.joins }
-later-edit book (AddModel model) b h = later-model book model b h
-later-edit book (RemoveModel id) b h = h
+later-edit book (OnElements elements) b h =
+    keeps-elements (λ after. IsLater after b → IsLater book b) book elements (λ ids added later. record { fresh = later.fresh; since = later.since; joins = later.joins }) h
+later-edit book (OnTimelines (AddTimeline id origin)) b h = record { fresh = h.fresh; since = h.since; joins = h.joins }
+later-edit book (OnModels (AddModel model)) b h = later-model book model b h
+later-edit book (OnModels (RemoveModel id)) b h = h
 
 later-commit : (book : Book) (b : Birth) → IsLater (book_after_commit book) b → IsLater book b
 later-commit book b h = record { fresh = h.fresh; since = omega (arith, h.since); joins = h.joins }
 
 pub commits-edit : (book : Book) (change : Change) → (book_after book change).commits ≡ book.commits
 unfolding book_after
-commits-edit book (AddElement id look) = refl
-commits-edit book (RemoveElement id) = refl
-commits-edit book (SetOpacity id opacity) = refl
-commits-edit book (SetTransform id transform) = refl
-commits-edit book (AddTimeline id origin) = refl
-commits-edit book (AddModel model) = refl
-commits-edit book (RemoveModel id) = refl
+commits-edit book (OnElements elements) = keeps-elements (λ after. after.commits ≡ book.commits) book elements (λ ids added. refl)
+commits-edit book (OnTimelines (AddTimeline id origin)) = refl
+commits-edit book (OnModels (AddModel model)) = refl
+commits-edit book (OnModels (RemoveModel id)) = refl
 
 -- a birth of an edit is its model's, or one of the steps behind it
-pub births_of-cases : (n : ℕ) (change : Change) (behind : List Birth) (b : Birth) → IsAmong b (births_of n change behind) → ((model : Spec) × (change ≡ AddModel model) × (b ≡ birth model n)) ⊎ IsAmong b behind
-births_of-cases n (AddElement id look) behind b h = inr h
-births_of-cases n (RemoveElement id) behind b h = inr h
-births_of-cases n (SetOpacity id opacity) behind b h = inr h
-births_of-cases n (SetTransform id transform) behind b h = inr h
-births_of-cases n (AddTimeline id origin) behind b h = inr h
-births_of-cases n (AddModel model) behind b (inl e) = inl (model, refl, e)
-births_of-cases n (AddModel model) behind b (inr h) = inr h
-births_of-cases n (RemoveModel id) behind b h = inr h
+pub births_of-cases : (n : ℕ) (change : Change) (behind : List Birth) (b : Birth) → IsAmong b (births_of n change behind) → ((model : Spec) × (change ≡ OnModels (AddModel model)) × (b ≡ birth model n)) ⊎ IsAmong b behind
+births_of-cases n (OnElements elements) behind b h = inr h
+births_of-cases n (OnTimelines timelines) behind b h = inr h
+births_of-cases n (OnModels (AddModel model)) behind b (inl e) = inl (model, refl, e)
+births_of-cases n (OnModels (AddModel model)) behind b (inr h) = inr h
+births_of-cases n (OnModels (RemoveModel id)) behind b h = inr h
 
 -- each birth of steps that are allowed is later than what was before them
 pub all_later : (book : Book) (steps : List StepOfMain) → are_allowed book steps ≡ true → (b : Birth) → IsAmong b (births book.commits steps) → IsLater book b
@@ -255,9 +251,9 @@ all_later book (EditStep change ∷ steps) allowed b h =
     parts : (is_none (edit_refusal book change) ≡ true) × (are_allowed (book_after book change) steps ≡ true)
     parts = and_parts _ _ allowed
 
-    go : ((model : Spec) × (change ≡ AddModel model) × (b ≡ birth model book.commits)) ⊎ IsAmong b (births book.commits steps) → (IsAmong b (births book.commits steps) → IsLater (book_after book change) b) → IsLater book b
+    go : ((model : Spec) × (change ≡ OnModels (AddModel model)) × (b ≡ birth model book.commits)) ⊎ IsAmong b (births book.commits steps) → (IsAmong b (births book.commits steps) → IsLater (book_after book change) b) → IsLater book b
     go (inl (model, same, e)) rest =
-        let ok : is_none (edit_refusal book (AddModel model)) ≡ true = subst (λ change. is_none (edit_refusal book change) ≡ true) same parts.0 in
+        let ok : is_none (edit_refusal book (OnModels (AddModel model))) ≡ true = subst (λ change. is_none (edit_refusal book change) ≡ true) same parts.0 in
         subst (λ b. IsLater book b) (sym e) (head_is_later book model (accepted book model ok))
     go (inr behind) rest = later-edit book change b (rest behind)
 all_later book (CommitStep ∷ steps) allowed b h = later-commit book b (all_later (book_after_commit book) steps (and_parts (is_allowed book CommitStep) _ allowed).1 b h)
@@ -269,7 +265,7 @@ all_later book (DrainStep ∷ steps) allowed b h = all_later book steps (and_par
 OldGroups : Book → Type 0
 OldGroups book = (group : ℕ) (parts : GroupParts) → parts_of book group ≡ Some parts → parts.commits_before ≤ book.commits
 
-old-model : (book : Book) (m : Spec) → OldGroups book → OldGroups (book_after book (AddModel m))
+old-model : (book : Book) (m : Spec) → OldGroups book → OldGroups (book_after book (OnModels (AddModel m)))
 unfolding OldGroups book_after grown
 old-model book m old group parts e = go (group == m.group) refl
   where
@@ -286,25 +282,22 @@ old-model book m old group parts e = go (group == m.group) refl
 
 old-edit : (book : Book) (change : Change) → OldGroups book → OldGroups (book_after book change)
 unfolding OldGroups book_after
-old-edit book (AddElement id look) h = h
-old-edit book (RemoveElement id) h = h
-old-edit book (SetOpacity id opacity) h = h
-old-edit book (SetTransform id transform) h = h
-old-edit book (AddTimeline id origin) h = h
-old-edit book (AddModel model) h = old-model book model h
-old-edit book (RemoveModel id) h = h
+old-edit book (OnElements elements) h = keeps-elements (λ after. (group : ℕ) (parts : GroupParts) → parts_of after group ≡ Some parts → parts.commits_before ≤ after.commits) book elements (λ ids added. h)
+old-edit book (OnTimelines (AddTimeline id origin)) h = h
+old-edit book (OnModels (AddModel model)) h = old-model book model h
+old-edit book (OnModels (RemoveModel id)) h = h
 
 old-commit : (book : Book) → OldGroups book → OldGroups (book_after_commit book)
 unfolding OldGroups
 old-commit book h group parts e = omega (arith, h group parts e)
 
-head_apart : (book : Book) (m : Spec) (c : Birth) → IsLater (book_after book (AddModel m)) c → m.id ≡ c.model.id → ⊥
+head_apart : (book : Book) (m : Spec) (c : Birth) → IsLater (book_after book (OnModels (AddModel m))) c → m.id ≡ c.model.id → ⊥
 unfolding book_after
 head_apart book m c h same =
     let last = (or_parts (is_in c.model.id book.models) (c.model.id == m.id || false) (sym (list_any-append (λ other. c.model.id == other) book.models (m.id ∷ [])) ∙ h.fresh)).1 in
     eqb-false c.model.id m.id (or_parts (c.model.id == m.id) false last).0 (sym same)
 
-head_mates : (book : Book) (m : Spec) (c : Birth) → IsAccepted book m → OldGroups book → IsLater (book_after book (AddModel m)) c → m.group ≡ c.model.group → AreMates (birth m book.commits) c
+head_mates : (book : Book) (m : Spec) (c : Birth) → IsAccepted book m → OldGroups book → IsLater (book_after book (OnModels (AddModel m))) c → m.group ≡ c.model.group → AreMates (birth m book.commits) c
 unfolding book_after OldGroups grown
 head_mates book m c ok old h same = go (find (λ parts. m.group == parts.group) book.groups) refl
   where
@@ -319,18 +312,18 @@ head_mates book m c ok old h same = go (find (λ parts. m.group == parts.group) 
           element = j.element;
           timeline = j.timeline;
           start = j.start;
-          property = λ alike. absurd (false≢true (sym (or_parts (same_property (property_of c.model) (property_of m)) false j.property).0 ∙ alike));
+          property = λ alike. absurd (false≢true (sym (or_parts (is_property (property_of c.model) (property_of m)) false j.property).0 ∙ alike));
         }
     go (Some parts) e =
         let j = joined (with_property (property_of m) parts) (member-own book.commits m book.groups ∙ ap (λ found. Some (grown book.commits m found)) e) in
         let i = (head_is_later book m ok).joins parts e in
-        let last = (or_parts (list_any (same_property (property_of c.model)) parts.properties) (same_property (property_of c.model) (property_of m) || false) (sym (list_any-append (same_property (property_of c.model)) parts.properties (property_of m ∷ [])) ∙ j.property)).1 in
+        let last = (or_parts (list_any (is_property (property_of c.model)) parts.properties) (is_property (property_of c.model) (property_of m) || false) (sym (list_any-append (is_property (property_of c.model)) parts.properties (property_of m ∷ [])) ∙ j.property)).1 in
         record {
           before = omega (arith, j.before, h.since, old m.group parts e);
           element = j.element ∙ sym i.element;
           timeline = j.timeline ∙ sym i.timeline;
           start = j.start ∙ sym i.start;
-          property = λ alike. absurd (false≢true (sym (or_parts (same_property (property_of c.model) (property_of m)) false last).0 ∙ alike));
+          property = λ alike. absurd (false≢true (sym (or_parts (is_property (property_of c.model) (property_of m)) false last).0 ∙ alike));
         }
 
 one_more : (b : Birth) (born : List Birth) → ((c : Birth) → IsAmong c born → b.model.id ≡ c.model.id → ⊥) → ((c : Birth) → IsAmong c born → b.model.group ≡ c.model.group → AreMates b c) → AreOfOneScript born → AreOfOneScript (b ∷ born)
@@ -349,15 +342,12 @@ one_more b born apart mates h = record { one = one; mates = all }
     all x y (inr e) (inr f) same = h.mates x y e f same
 
 of_one-edit : (book : Book) (change : Change) (behind : List Birth) → is_none (edit_refusal book change) ≡ true → OldGroups book → ((c : Birth) → IsAmong c behind → IsLater (book_after book change) c) → AreOfOneScript behind → AreOfOneScript (births_of book.commits change behind)
-of_one-edit book (AddElement id look) behind allowed old later h = h
-of_one-edit book (RemoveElement id) behind allowed old later h = h
-of_one-edit book (SetOpacity id opacity) behind allowed old later h = h
-of_one-edit book (SetTransform id transform) behind allowed old later h = h
-of_one-edit book (AddTimeline id origin) behind allowed old later h = h
-of_one-edit book (AddModel model) behind allowed old later h =
+of_one-edit book (OnElements elements) behind allowed old later h = h
+of_one-edit book (OnTimelines timelines) behind allowed old later h = h
+of_one-edit book (OnModels (AddModel model)) behind allowed old later h =
     one_more (birth model book.commits) behind (λ c r same. head_apart book model c (later c r) same)
     (λ c r same. head_mates book model c (accepted book model allowed) old (later c r) same) h
-of_one-edit book (RemoveModel id) behind allowed old later h = h
+of_one-edit book (OnModels (RemoveModel id)) behind allowed old later h = h
 
 of_one : (book : Book) (steps : List StepOfMain) → are_allowed book steps ≡ true → OldGroups book → AreOfOneScript (births book.commits steps)
 unfolding are_allowed

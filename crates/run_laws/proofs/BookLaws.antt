@@ -6,16 +6,16 @@ use Rattle.std.proofs.lemmas.List.Sums.{fold-append}
 use Rattle.anim_names.specs.declared.lane.Lane.{Lane}
 use Rattle.anim_names.specs.declared.lane.Lane.TheVariants.{Main, Compositor}
 use Rattle.anim_names.specs.Lanes.{letters_of}
-use Rattle.tree_commit.specs.declared.runs.mark.Mark.{Mark}
+use Rattle.run_rules.specs.declared.mark.Mark.{Mark}
 use Rattle.tree_commit.specs.Trees.{Committed, empty_commit}
 use Rattle.tree_commit.specs.Tables.{has_timeline}
-use Rattle.tree_commit.specs.Marks.{event_of}
+use Rattle.run_rules.specs.Marks.{event_of}
 use Rattle.tree_commit.specs.Edits.{Book, new_book, is_in}
-use Rattle.tree_commit.specs.Scripts.{ScriptLists, StepOfMain, EditStep, CommitStep, DrainStep, IsWellFormed, book_of, book_after_step}
-use Rattle.tree_commit.specs.Runs.{Lanes, MainLane, beginning, after_letter, after, main_takes, main_step, after_drain}
-use Rattle.tree_commit.specs.Follows.{IsAmong}
+use Rattle.run_rules.specs.Scripts.{ScriptLists, StepOfMain, EditStep, CommitStep, DrainStep, IsWellFormed, book_of, book_after_step}
+use Rattle.run_rules.specs.Runs.{Lanes, MainLane, beginning, after_letter, after, main_takes, main_step, after_drain}
+use Rattle.anim_names.specs.Lists.{IsAmong}
 use Rattle.run_laws.specs.Growth.{CommitsOnlyGrow, LearntStays}
-use Rattle.run_laws.specs.MainTree.{GoTogether}
+use Rattle.run_laws.specs.MainTree.{BookGoesWithTree}
 use Rattle.tree_commit.proofs.Among.{among-append_left}
 use Rattle.run_laws.proofs.Births.{Birth, births, AreOfOneScript}
 use Rattle.run_laws.proofs.MainLemmas.{MainFits}
@@ -66,7 +66,7 @@ has_made script lanes [] one h = h
 has_made script lanes (Main ∷ word) one h = has_made script (after_letter lanes Main) word one (makes_next script lanes.compositor.marks lanes.main.left lanes.main one refl h)
 has_made script lanes (Compositor ∷ word) one h = has_made script (after_letter lanes Compositor) word one h
 
-book_goes : (book : Book) (lane : MainLane) (born : List Birth) → MainFits born book lane → GoTogether book lane.tree
+book_goes : (book : Book) (lane : MainLane) (born : List Birth) → MainFits born book lane → BookGoesWithTree book lane.tree
 book_goes book lane born h = record {
   elements = h.together.elements;
   timelines = h.together.timelines;
@@ -74,7 +74,7 @@ book_goes book lane born h = record {
   timelines_there = all-from_among (λ model. IsTrue (has_timeline lane.tree model.timeline)) lane.tree.models h.now.timelines;
 }
 
-pub book_goes_with_tree : (script : ScriptLists) → IsWellFormed script → (word : List Lane) → GoTogether (book_of (take (letters_of Main word) script.main)) (after (beginning script) word).main.tree
+pub book_goes_with_tree : (script : ScriptLists) → IsWellFormed script → (word : List Lane) → BookGoesWithTree (book_of (take (letters_of Main word) script.main)) (after (beginning script) word).main.tree
 book_goes_with_tree script well word =
     let first : HasMade script (beginning script).main = record { made = []; steps = refl; fits = begins_main script well } in
     let h = has_made script (beginning script) word (one_script script well) first in
@@ -82,7 +82,7 @@ book_goes_with_tree script well word =
     let same : h.made ≡ take (letters_of Main word) script.main =
     append_cancel_right h.made (take (letters_of Main word) script.main) (drop (letters_of Main word) script.main)
     (ap (λ l. h.made ++ l) (sym left) ∙ sym h.steps ∙ sym (take-drop (letters_of Main word) script.main)) in
-    subst (λ steps. GoTogether (book_of steps) (after (beginning script) word).main.tree) same (book_goes (book_of h.made) (after (beginning script) word).main (births 0 script.main) h.fits)
+    subst (λ steps. BookGoesWithTree (book_of steps) (after (beginning script) word).main.tree) same (book_goes (book_of h.made) (after (beginning script) word).main (births 0 script.main) h.fits)
 
 -- ---- what a lane has learnt
 

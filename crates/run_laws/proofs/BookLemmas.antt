@@ -7,11 +7,12 @@ use Rattle.std.proofs.lemmas.List.{map-append, length-append, length-map}
 use Rattle.std.proofs.lemmas.List.Folds.{list_any-append}
 use Rattle.anim_names.specs.declared.limit.TheConstants.{MOST_ELEMENTS, MOST_MODELS, MOST_TIMELINES}
 use Rattle.keyframe_model.specs.Models.{Spec}
-use Rattle.tree_commit.specs.Trees.{TreeLists, Look, Element}
-use Rattle.tree_commit.specs.Edits.{Change, AddElement, RemoveElement, SetOpacity, SetTransform, AddTimeline, AddModel, RemoveModel, Book, is_in, without, with_look, edit_refusal, book_after, tree_after}
-use Rattle.tree_commit.specs.Follows.{IsAmong}
+use Rattle.tree_commit.specs.Trees.{TreeLists, Look}
+use Rattle.tree_commit.specs.Edits.{OnModels, OnTimelines, OnElements, Change, AddElement, RemoveElement, AddTimeline, AddModel, RemoveModel, Book, is_in, without, with_look, edit_refusal, book_after, tree_after, SetOwn}
+use Rattle.anim_names.specs.Lists.{IsAmong}
 use Rattle.run_laws.specs.MainTree.{IsWithinLimits}
 use Rattle.tree_commit.proofs.Among.{among-append_cases}
+use Rattle.tree_commit.proofs.TableLemmas.{map-with_look}
 use Rattle.run_laws.proofs.Births.{accepted, not_refused}
 use Rattle.run_laws.proofs.Lines.{IsThin, thin_without}
 
@@ -59,14 +60,6 @@ length-without {A} p (x ∷ xs) = go (p x) (length-without p xs)
     go true rest = omega arith
     go false rest = omega (arith, rest)
 
-map-with_look : (id : ℕ) (change : Look → Look) (elements : List Element) → map (λ element. element.id) (with_look id change elements) ≡ map (λ element. element.id) elements
-map-with_look id change [] = refl
-map-with_look id change (element ∷ elements) = go (id == element.id) (map-with_look id change elements)
-  where
-    go : (found : Bool) → map (λ element. element.id) (with_look id change elements) ≡ map (λ element. element.id) elements → map (λ element. element.id) (cond found (record element { look = change element.look } ∷ elements) (element ∷ with_look id change elements)) ≡ map (λ element. element.id) (element ∷ elements)
-    go true rest = refl
-    go false rest = ap (λ ids. element.id ∷ ids) rest
-
 -- ---- each edit keeps it
 
 pub book_thin : (book : Book) (tree thin : TreeLists) → thin.elements ≡ tree.elements → thin.timelines ≡ tree.timelines → IsThin thin.models tree.models → BookFits book tree → BookFits book thin
@@ -93,7 +86,7 @@ book-look book tree id change h = record {
   timelines_room = h.timelines_room;
 }
 
-book-add_element : (book : Book) (tree : TreeLists) (id : ℕ) (look : Look) → is_none (edit_refusal book (AddElement id look)) ≡ true → BookFits book tree → BookFits (book_after book (AddElement id look)) (tree_after tree (AddElement id look))
+book-add_element : (book : Book) (tree : TreeLists) (id : ℕ) (look : Look) → is_none (edit_refusal book (OnElements (AddElement id look))) ≡ true → BookFits book tree → BookFits (book_after book (OnElements (AddElement id look))) (tree_after tree (OnElements (AddElement id look)))
 unfolding edit_refusal book_after tree_after
 book-add_element book tree id look allowed h =
     let first = not_refused (is_in id book.elements) _ _ allowed in
@@ -111,7 +104,7 @@ book-add_element book tree id look allowed h =
       timelines_room = h.timelines_room;
     }
 
-book-remove_element : (book : Book) (tree : TreeLists) (id : ℕ) → BookFits book tree → BookFits (book_after book (RemoveElement id)) (tree_after tree (RemoveElement id))
+book-remove_element : (book : Book) (tree : TreeLists) (id : ℕ) → BookFits book tree → BookFits (book_after book (OnElements (RemoveElement id))) (tree_after tree (OnElements (RemoveElement id)))
 unfolding book_after tree_after
 book-remove_element book tree id h = record {
   elements = ap (without (λ other. id == other)) h.elements ∙ sym (map-without (λ element. element.id) id tree.elements);
@@ -124,7 +117,7 @@ book-remove_element book tree id h = record {
   timelines_room = h.timelines_room;
 }
 
-book-add_timeline : (book : Book) (tree : TreeLists) (id origin : ℕ) → is_none (edit_refusal book (AddTimeline id origin)) ≡ true → BookFits book tree → BookFits (book_after book (AddTimeline id origin)) (tree_after tree (AddTimeline id origin))
+book-add_timeline : (book : Book) (tree : TreeLists) (id origin : ℕ) → is_none (edit_refusal book (OnTimelines (AddTimeline id origin))) ≡ true → BookFits book tree → BookFits (book_after book (OnTimelines (AddTimeline id origin))) (tree_after tree (OnTimelines (AddTimeline id origin)))
 unfolding edit_refusal book_after tree_after
 book-add_timeline book tree id origin allowed h =
     let first = not_refused (is_in id book.timelines) _ _ allowed in
@@ -142,7 +135,7 @@ book-add_timeline book tree id origin allowed h =
       timelines_room = omega (arith, longer, room);
     }
 
-book-add_model : (book : Book) (tree : TreeLists) (model : Spec) → is_none (edit_refusal book (AddModel model)) ≡ true → BookFits book tree → BookFits (book_after book (AddModel model)) (tree_after tree (AddModel model))
+book-add_model : (book : Book) (tree : TreeLists) (model : Spec) → is_none (edit_refusal book (OnModels (AddModel model))) ≡ true → BookFits book tree → BookFits (book_after book (OnModels (AddModel model))) (tree_after tree (OnModels (AddModel model)))
 unfolding book_after tree_after
 book-add_model book tree model allowed h =
     let room : length book.models < MOST_MODELS = leb-false MOST_MODELS (length book.models) (accepted book model allowed).room in
@@ -169,11 +162,10 @@ book-add_model book tree model allowed h =
 
 pub book_edit : (book : Book) (tree : TreeLists) (change : Change) → is_none (edit_refusal book change) ≡ true → BookFits book tree → BookFits (book_after book change) (tree_after tree change)
 unfolding book_after tree_after
-book_edit book tree (AddElement id look) allowed h = book-add_element book tree id look allowed h
-book_edit book tree (RemoveElement id) allowed h = book-remove_element book tree id h
-book_edit book tree (SetOpacity id opacity) allowed h = book-look book tree id _ h
-book_edit book tree (SetTransform id transform) allowed h = book-look book tree id _ h
-book_edit book tree (AddTimeline id origin) allowed h = book-add_timeline book tree id origin allowed h
-book_edit book tree (AddModel model) allowed h = book-add_model book tree model allowed h
-book_edit book tree (RemoveModel id) allowed h =
+book_edit book tree (OnElements (AddElement id look)) allowed h = book-add_element book tree id look allowed h
+book_edit book tree (OnElements (RemoveElement id)) allowed h = book-remove_element book tree id h
+book_edit book tree (OnElements (SetOwn id value)) allowed h = book-look book tree id _ h
+book_edit book tree (OnTimelines (AddTimeline id origin)) allowed h = book-add_timeline book tree id origin allowed h
+book_edit book tree (OnModels (AddModel model)) allowed h = book-add_model book tree model allowed h
+book_edit book tree (OnModels (RemoveModel id)) allowed h =
     book_thin book tree _ refl refl (thin_without (λ model. id == model.id) tree.models) h

@@ -1,20 +1,21 @@
 -- How many steps each lane has made after a word, and what they have added.
-use Rattle.std.proofs.Common.{◌≡◌, ℕ, ◌+◌, zero, suc, Bool, true, false, cond, Option, Some, None, List, [], ◌∷◌, ◌++◌, length, take, drop, map, refl, sym, ap, ◌∙◌, append_assoc, arith}
-use Rattle.std.specs.Prelude.{count_by, is_none, nat_lt, ◌&&◌}
+use Rattle.std.proofs.Common.{◌≡◌, ℕ, ◌+◌, zero, suc, Bool, cond, List, [], ◌∷◌, ◌++◌, length, take, drop, map, refl, sym, ap, ◌∙◌, append_assoc, arith}
+use Rattle.std.specs.Prelude.{count_by}
 use Rattle.std.proofs.lemmas.List.{append-nil, length-append, map-append}
 use Rattle.std.proofs.lemmas.List.Sums.{sum_by-cons, sum_by-take-drop}
 use Rattle.anim_names.specs.declared.lane.Lane.{Lane}
 use Rattle.anim_names.specs.declared.lane.Lane.TheVariants.{Main, Compositor}
 use Rattle.anim_names.specs.Lanes.{is_lane, letters_of}
-use Rattle.tree_commit.specs.declared.runs.mark.Mark.{Mark}
-use Rattle.tree_commit.specs.declared.runs.compositor_step.CompositorStep.{CompositorStep}
-use Rattle.tree_commit.specs.declared.runs.compositor_step.CompositorStep.TheVariants.{Pull, Activate, Tick}
+use Rattle.run_rules.specs.declared.mark.Mark.{Mark}
+use Rattle.run_rules.specs.declared.compositor_step.CompositorStep.{CompositorStep}
 use Rattle.tree_commit.specs.Trees.{Committed, next_commit}
-use Rattle.tree_commit.specs.Frames.{DrawnFrame, frame_at}
-use Rattle.tree_commit.specs.Scripts.{StepOfMain, EditStep, CommitStep, DrainStep, ScriptLists, IsWordOf, ticks_of}
-use Rattle.tree_commit.specs.Runs.{Lanes, MainLane, CompositorLane, beginning, after_letter, after, main_step, main_takes, after_drain, unheard_events, newest_commit, with_pending, after_activation, compositor_takes, compositor_step, closing_report}
+use Rattle.run_rules.specs.Frames.{DrawnFrame, frame_at}
+use Rattle.run_rules.specs.Scripts.{StepOfMain, EditStep, CommitStep, DrainStep, ScriptLists, IsWordOf, ticks_of}
+use Rattle.run_rules.specs.Runs.{Lanes, MainLane, CompositorLane, beginning, after_letter, after, main_step, main_takes, after_drain, unheard_events, compositor_takes, compositor_step, closing_report, compositor_makes}
+use Rattle.run_rules.proofs.StepLemmas.{quiet-keeps}
 use Rattle.run_laws.specs.Words.{is_drain, IsComplete}
 use Rattle.run_laws.specs.Growth.{is_commit, AreNumberedFrom, CommitsAreCounted}
+use Rattle.run_laws.proofs.CompositorSteps.{activation-left, by_step, makes-left, quiet-time, ticks-left}
 
 -- ---- steps that are left
 
@@ -135,19 +136,9 @@ commits_are_counted script word =
 
 -- ---- the compositor's lane
 
-activation-left : (pending : Option Committed) (lane : CompositorLane) → ((after_activation pending lane).left ≡ lane.left) × ((after_activation pending lane).frames ≡ lane.frames)
-activation-left None lane = (refl, refl)
-activation-left (Some commit) lane = (refl, refl)
-
-pull-left : (taken : Bool) (newest : Committed) (lane : CompositorLane) → ((cond taken (with_pending newest lane) lane).left ≡ lane.left) × ((cond taken (with_pending newest lane) lane).frames ≡ lane.frames)
-pull-left true newest lane = (refl, refl)
-pull-left false newest lane = (refl, refl)
-
 takes-left : (commits : List Committed) (left : List CompositorStep) (lane : CompositorLane) → lane.left ≡ left → (compositor_takes commits left lane).left ≡ tail left
 takes-left commits [] lane e = e
-takes-left commits (Pull ∷ left) lane e = (pull-left (is_none lane.pending && nat_lt lane.pulled (newest_commit commits).number) (newest_commit commits) (record lane { left = left })).0
-takes-left commits (Activate ∷ left) lane e = (activation-left lane.pending (record lane { left = left })).0
-takes-left commits (Tick time ∷ left) lane e = refl
+takes-left commits (step ∷ left) lane e = makes-left commits step (record lane { left = left })
 
 pub compositor-left : (lanes : Lanes) (word : List Lane) → (after lanes word).compositor.left ≡ drop (letters_of Compositor word) lanes.compositor.left
 unfolding after compositor_step
@@ -166,13 +157,12 @@ times frames left = map (λ frame. frame.time) frames ++ ticks_of left
 takes-times : (commits : List Committed) (left : List CompositorStep) (lane : CompositorLane) → lane.left ≡ left → times (compositor_takes commits left lane).frames (tail left) ≡ times lane.frames left
 unfolding times frame_at
 takes-times commits [] lane e = refl
-takes-times commits (Pull ∷ left) lane e =
-    ap (λ frames. map (λ frame. frame.time) frames ++ ticks_of left) (pull-left (is_none lane.pending && nat_lt lane.pulled (newest_commit commits).number) (newest_commit commits) (record lane { left = left })).1
-takes-times commits (Activate ∷ left) lane e =
-    ap (λ frames. map (λ frame. frame.time) frames ++ ticks_of left) (activation-left lane.pending (record lane { left = left })).1
-takes-times commits (Tick time ∷ left) lane e =
-    ap (λ times. times ++ ticks_of left) (map-append (λ frame. frame.time) lane.frames _)
-    ∙ append_assoc (map (λ frame. frame.time) lane.frames) (time ∷ []) (ticks_of left)
+takes-times commits (step ∷ left) lane e =
+    by_step (λ step. map (λ frame. frame.time) (compositor_makes commits step (record lane { left = left })).frames ++ ticks_of left ≡ map (λ frame. frame.time) lane.frames ++ ticks_of (step ∷ left))
+    (λ step quiet. rw (quiet-keeps commits step (record lane { left = left }) quiet).frames (ap (λ ticks. map (λ frame. frame.time) lane.frames ++ ticks) (sym (ticks-left step left (quiet-time step quiet)))))
+    (ap (λ frames. map (λ frame. frame.time) frames ++ ticks_of left) (activation-left lane.pending (record lane { left = left })).1)
+    (λ time. ap (λ times. times ++ ticks_of left) (map-append (λ frame. frame.time) lane.frames _)
+    ∙ append_assoc (map (λ frame. frame.time) lane.frames) (time ∷ []) (ticks_of left)) step
 
 word-times : (lanes : Lanes) (word : List Lane) → times (after lanes word).compositor.frames (after lanes word).compositor.left ≡ times lanes.compositor.frames lanes.compositor.left
 unfolding after compositor_step

@@ -1,38 +1,46 @@
 -- Laws of a model's marks.
-use Rattle.std.proofs.Common.{◌≡◌, ℕ, ◌+◌, ◌≤◌, ◌==◌, Bool, true, false, not, cond, List, [], ◌∷◌, ◌++◌, refl, sym, ap, ◌∙◌, subst, append_assoc, arith}
+use Rattle.std.proofs.Common.{◌≡◌, ℕ, ◌+◌, ◌≤◌, Bool, true, false, not, cond, List, [], ◌∷◌, ◌++◌, refl, sym, ap, ◌∙◌, subst, append_assoc, arith}
 use Rattle.std.specs.Prelude.{count_by, IsSomeAnd}
 use Rattle.std.specs.List.{list_any}
-use Rattle.std.proofs.lemmas.Bool.{false≢true, and_parts, not-true, eqb-true, eq-eqb, or_right, or_left}
+use Rattle.std.proofs.lemmas.Bool.{false≢true, and_parts, not-true, or_right, or_left}
 use Rattle.std.proofs.lemmas.List.{append-nil}
 use Rattle.std.proofs.lemmas.List.Folds.{list_any-append}
 use Rattle.std.proofs.lemmas.List.Sums.{sum_by-cons}
 use Rattle.anim_names.specs.declared.lane.Lane.{Lane}
-use Rattle.tree_commit.specs.declared.runs.mark.Mark.{Mark}
-use Rattle.tree_commit.specs.declared.runs.mark.Mark.TheVariants.{Started, Finished, Aborted}
-use Rattle.tree_commit.specs.Marks.{model_of, starts, ends, aborts, is_started, is_ended}
-use Rattle.tree_commit.specs.Scripts.{ScriptLists, IsWellFormed}
-use Rattle.tree_commit.specs.Runs.{Lanes, beginning, after}
-use Rattle.run_laws.specs.Ends.{may_follow, EndsOnce, AbortedWasActive}
+use Rattle.run_rules.specs.declared.mark.Mark.{Mark}
+use Rattle.run_rules.specs.declared.mark.Mark.TheVariants.{OfModel}
+use Rattle.run_rules.specs.declared.mark.ModelMark.TheVariants.{Started, Finished, Aborted}
+use Rattle.run_rules.specs.Marks.{starts, ends, is_started, is_ended, is_about, is_end, is_start}
+use Rattle.run_rules.specs.Scripts.{ScriptLists, IsWellFormed}
+use Rattle.run_rules.specs.Runs.{Lanes, beginning, after}
+use Rattle.run_rules.specs.declared.mark.ModelMark.{ModelMark}
+use Rattle.run_rules.proofs.MarkLemmas.{says-model, says-what}
+use Rattle.run_laws.specs.Ends.{may_follow, EndsOnce, AbortedWasActive, may_become}
 use Rattle.run_laws.specs.ActiveCommit.{EndedHadStarted, GroupsAreWhole}
 use Rattle.run_laws.proofs.MarkFacts.{AreInOrder, any-more}
 use Rattle.run_laws.proofs.RunFits.{run_fits}
-use Rattle.run_laws.proofs.GroupLaws.{Kind, is_finish, is_start, is_abort, kind_of, marked_are_active}
+use Rattle.run_laws.proofs.GroupLaws.{Kind, by_finish, by_start, by_abort, kind_of, marked_are_active}
 use Rattle.run_laws.proofs.StepLemmas.{new-mark}
 
 -- ---- counts of marks in order
 
+start-comes : (started ended : Bool) (what : ModelMark) → may_become started ended what ≡ true → is_start what ≡ true → started ≡ false
+start-comes started ended (Started begun) may s = not-true _ (and_parts (not started) _ may).0
+start-comes started ended (Finished at) may s = absurd (false≢true s)
+start-comes started ended (Aborted commit) may s = absurd (false≢true s)
+
+end-comes : (started ended : Bool) (what : ModelMark) → may_become started ended what ≡ true → is_end what ≡ true → ended ≡ false
+end-comes started ended (Started begun) may s = absurd (false≢true s)
+end-comes started ended (Finished at) may s = not-true _ (and_parts started _ may).1
+end-comes started ended (Aborted commit) may s = not-true _ may
+
 start_follows : (before : List Mark) (mark : Mark) (id : ℕ) → may_follow before mark ≡ true → starts id mark ≡ true → is_started before id ≡ true → ⊥
-start_follows before (Started model group element property at start) id may s old =
-    false≢true (sym (not-true _ (and_parts (not (is_started before model)) _ may).0) ∙ subst (λ i. is_started before i ≡ true) (eqb-true id model s) old)
-start_follows before (Finished model at) id may s old = false≢true s
-start_follows before (Aborted model commit) id may s old = false≢true s
+start_follows before (OfModel model what) id may s old =
+    false≢true (sym (start-comes _ _ what may (says-what is_start id model what s)) ∙ subst (λ i. is_started before i ≡ true) (says-model is_start id (OfModel model what) s) old)
 
 end_follows : (before : List Mark) (mark : Mark) (id : ℕ) → may_follow before mark ≡ true → ends id mark ≡ true → is_ended before id ≡ true → ⊥
-end_follows before (Started model group element property at start) id may s old = false≢true s
-end_follows before (Finished model at) id may s old =
-    false≢true (sym (not-true _ (and_parts (is_started before model) _ may).1) ∙ subst (λ i. is_ended before i ≡ true) (eqb-true id model s) old)
-end_follows before (Aborted model commit) id may s old =
-    false≢true (sym (not-true _ may) ∙ subst (λ i. is_ended before i ≡ true) (eqb-true id model s) old)
+end_follows before (OfModel model what) id may s old =
+    false≢true (sym (end-comes _ _ what may (says-what is_end id model what s)) ∙ subst (λ i. is_ended before i ≡ true) (says-model is_end id (OfModel model what) s) old)
 
 -- what one mark adds to a count
 abbrev weight : Bool → ℕ
@@ -68,15 +76,15 @@ module _ (p : Mark → Bool) (alone : (before : List Mark) (mark : Mark) → may
           omega (arith, counted, own, rest)
 
 -- a mark of a model is a start or an end of it
-either_kind : (id : ℕ) (mark : Mark) → weight (id == model_of mark) ≡ weight (starts id mark) + weight (ends id mark)
-either_kind id (Started model group element property at start) = omega arith
-either_kind id (Finished model at) = omega arith
-either_kind id (Aborted model commit) = omega arith
+either_kind : (id : ℕ) (mark : Mark) → weight (is_about id mark) ≡ weight (starts id mark) + weight (ends id mark)
+either_kind id (OfModel model (Started begun)) = omega arith
+either_kind id (OfModel model (Finished at)) = omega arith
+either_kind id (OfModel model (Aborted commit)) = omega arith
 
-count-both : (id : ℕ) (marks : List Mark) → count_by (λ mark. id == model_of mark) marks ≡ count_by (starts id) marks + count_by (ends id) marks
+count-both : (id : ℕ) (marks : List Mark) → count_by (is_about id) marks ≡ count_by (starts id) marks + count_by (ends id) marks
 count-both id [] = omega arith
 count-both id (mark ∷ marks) =
-    let both : count_by (λ mark. id == model_of mark) (mark ∷ marks) ≡ weight (id == model_of mark) + count_by (λ mark. id == model_of mark) marks = sum_by-cons (λ mark. cond (id == model_of mark) 1 0) mark marks in
+    let both : count_by (is_about id) (mark ∷ marks) ≡ weight (is_about id mark) + count_by (is_about id) marks = sum_by-cons (λ x. cond (is_about id x) 1 0) mark marks in
     let started : count_by (starts id) (mark ∷ marks) ≡ weight (starts id mark) + count_by (starts id) marks = sum_by-cons (λ x. cond (starts id x) 1 0) mark marks in
     let ended : count_by (ends id) (mark ∷ marks) ≡ weight (ends id mark) + count_by (ends id) marks = sum_by-cons (λ x. cond (ends id x) 1 0) mark marks in
     omega (arith, both, started, ended, either_kind id mark, count-both id marks)
@@ -101,22 +109,16 @@ models_end_once script well word = ends_once _ (run_fits script well word).compo
 
 -- ---- aborts
 
--- the commit that an abort names
-abbrev number_of : Mark → ℕ
-number_of (Started model group element property at start) = 0
-number_of (Finished model at) = 0
-number_of (Aborted model commit) = commit
-
-aborted_by : (lanes : Lanes) (model commit : ℕ) (mark : Mark) → mark ≡ Aborted model commit → Kind lanes mark → IsSomeAnd lanes.compositor.pending (λ pending. pending.number ≡ commit)
-aborted_by lanes model commit mark same (is_finish time other there running e) = absurd (false≢true (subst (λ m. aborts model m ≡ true) (sym same ∙ e) (eq-eqb model model refl)))
-aborted_by lanes model commit mark same (is_start time left next is) = absurd (false≢true (subst (λ m. aborts model m ≡ true) (sym same ∙ is.is) (eq-eqb model model refl)))
-aborted_by lanes model commit mark same (is_abort number other pending there e) =
-    subst (λ p. IsSomeAnd p (λ pending. pending.number ≡ commit)) (sym pending) (ap number_of (sym e ∙ same))
+aborted_by : (lanes : Lanes) (model commit : ℕ) (mark : Mark) → mark ≡ OfModel model (Aborted commit) → Kind lanes mark → IsSomeAnd lanes.compositor.pending (λ pending. pending.number ≡ commit)
+aborted_by lanes model commit mark same (by_finish time other there running e) = absurd cc
+aborted_by lanes model commit mark same (by_start time left next is) = let started = is.is in absurd cc
+aborted_by lanes model commit mark same (by_abort number other pending there e) =
+    subst (λ p. IsSomeAnd p (λ pending. pending.number ≡ commit)) (sym pending) cc
 
 pub aborted_was_active : (lanes : Lanes) (letter : Lane) → AbortedWasActive lanes letter
 aborted_was_active lanes letter model commit a = (
-  marked_are_active lanes letter (Aborted model commit) a,
-  aborted_by lanes model commit (Aborted model commit) refl (kind_of lanes (Aborted model commit) (new-mark lanes letter (Aborted model commit) a)),
+  marked_are_active lanes letter (OfModel model (Aborted commit)) a,
+  aborted_by lanes model commit (OfModel model (Aborted commit)) refl (kind_of lanes (OfModel model (Aborted commit)) (new-mark lanes letter (OfModel model (Aborted commit)) a)),
 )
 
 -- ---- the active commit

@@ -5,20 +5,21 @@ use Rattle.std.specs.List.{list_any}
 use Rattle.std.proofs.lemmas.Bool.{false≢true, eqb-true}
 use Rattle.anim_names.specs.declared.lane.Lane.{Lane}
 use Rattle.anim_names.specs.Lists.{BeginsWith}
-use Rattle.tree_commit.specs.declared.runs.mark.Mark.{Mark}
+use Rattle.run_rules.specs.declared.mark.Mark.{Mark}
 use Rattle.tree_commit.specs.Trees.{TreeLists, Committed, has_model, origin_of}
 use Rattle.tree_commit.specs.Tables.{has_timeline}
-use Rattle.tree_commit.specs.Marks.{model_of, starts_in}
+use Rattle.run_rules.specs.Marks.{starts_in, is_about}
 use Rattle.tree_commit.specs.Edits.{new_book, is_in}
-use Rattle.tree_commit.specs.Scripts.{ScriptLists, IsWellFormed, book_of}
-use Rattle.tree_commit.specs.Runs.{Lanes, beginning, after}
-use Rattle.tree_commit.specs.Follows.{Follows}
-use Rattle.run_laws.specs.Follows.{PendingFollows, IsKnown, KnownWereAdded}
+use Rattle.run_rules.specs.Scripts.{ScriptLists, IsWellFormed, book_of}
+use Rattle.run_rules.specs.Runs.{Lanes, beginning, after}
+use Rattle.run_rules.specs.Follows.{Follows}
+use Rattle.run_rules.proofs.MarkLemmas.{about-model}
+use Rattle.run_laws.specs.Follows.{PendingFollows, IsKnownAt, KnownWereAdded}
 use Rattle.tree_commit.proofs.Among.{any-cases}
 use Rattle.run_laws.proofs.Births.{Birth, birth, births, AreOfOneScript}
 use Rattle.run_laws.proofs.Lines.{FitsBirths, Precedes}
 use Rattle.run_laws.proofs.MarkFacts.{any-more}
-use Rattle.run_laws.proofs.MarksFit.{MarksFit, about-model, model_there}
+use Rattle.run_laws.proofs.MarksFit.{MarksFitBirths, about-id, model_there}
 use Rattle.run_laws.proofs.ActivationFits.{marked-stays, group-stays}
 use Rattle.run_laws.proofs.RunFits.{RunFits, IsPendingOf, run_fits, one_script, active_fits, active_precedes}
 use Rattle.run_laws.proofs.AddedModels.{born_added, room_steps, distinct_within}
@@ -38,15 +39,15 @@ timelines_follow active new (others, e) id h = (
       ∙ ap (λ found. unwrap_or (option_map (λ clock. clock.origin) found) 0) (find-more (λ clock. id == clock.id) active.timelines others h),
 )
 
-follows : (born : List Birth) (active new : Committed) (marks : List Mark) → AreOfOneScript born → FitsBirths born active → FitsBirths born new → Precedes born active new → MarksFit born active marks → Follows active.tree new.tree marks
+follows : (born : List Birth) (active new : Committed) (marks : List Mark) → AreOfOneScript born → FitsBirths born active → FitsBirths born new → Precedes born active new → MarksFitBirths born active marks → Follows active.tree new.tree marks
 follows born active new marks script old fits goes h = record {
   one_model = λ model twin a b same.
       let one = old.born_before model a in
       let two = fits.born_before twin b in
       ap (λ birth. birth.model) (script.one (birth model one.0) (birth twin two.0) one.1 two.1 same);
   marked = λ model a marked.
-      let found = any-cases (λ mark. model.id == model_of mark) marks marked in
-      marked-stays born active new found.0 model script fits goes (h.of_births found.0 found.1) a (sym (eqb-true model.id (model_of found.0) found.2));
+      let found = any-cases (is_about model.id) marks marked in
+      marked-stays born active new found.0 model script fits goes (h.of_births found.0 found.1) a (sym (about-model model.id found.0 found.2));
   group_there = λ model a has.
       let found = any-cases (λ other. model.group == other.group) active.tree.models has in
       let first = old.born_before found.0 found.1 in
@@ -83,7 +84,7 @@ pending_follows script well word = go lanes.compositor.pending fits.compositor.p
 
 -- ---- known models
 
-known_added : (script : ScriptLists) (well : IsWellFormed script) (word : List Lane) (id : ℕ) → IsKnown (after (beginning script) word) id → is_in id (book_of script.main).models ≡ true
+known_added : (script : ScriptLists) (well : IsWellFormed script) (word : List Lane) (id : ℕ) → IsKnownAt (after (beginning script) word) id → is_in id (book_of script.main).models ≡ true
 known_added script well word id known = go known
   where
     lanes : Lanes
@@ -102,11 +103,11 @@ known_added script well word id known = go known
     pending None is has = absurd has
     pending (Some commit) is has = of_commit commit (fits.main.fits commit is.0) has
 
-    go : IsKnown lanes id → is_in id (book_of script.main).models ≡ true
+    go : IsKnownAt lanes id → is_in id (book_of script.main).models ≡ true
     go (inl marked) =
-        let found = any-cases (λ mark. id == model_of mark) lanes.compositor.marks marked in
+        let found = any-cases (is_about id) lanes.compositor.marks marked in
         let whose = fits.compositor.marks.of_births found.0 found.1 in
-        let same : id ≡ whose.model.id = eqb-true id (model_of found.0) found.2 ∙ about-model whose.model found.0 whose.about in
+        let same : id ≡ whose.model.id = about-model id found.0 found.2 ∙ about-id whose.model found.0 whose.about in
         subst (λ i. is_in i (book_of script.main).models ≡ true) (sym same) (born_added new_book script.main (birth whose.model whose.before) whose.among)
     go (inr (inl has)) = of_commit lanes.compositor.active (active_fits (births 0 script.main) fits.book lanes.main lanes.compositor.active fits.main fits.compositor.active) has
     go (inr (inr has)) = pending lanes.compositor.pending fits.compositor.pending has

@@ -7,12 +7,12 @@ use Rattle.std.proofs.lemmas.List.{append-nil, length-append, map-append}
 use Rattle.anim_names.specs.declared.event.AnimEvent.{AnimEvent}
 use Rattle.anim_names.specs.declared.lane.Lane.{Lane}
 use Rattle.anim_names.specs.declared.lane.Lane.TheVariants.{Main, Compositor}
-use Rattle.tree_commit.specs.declared.runs.mark.Mark.{Mark}
+use Rattle.run_rules.specs.declared.mark.Mark.{Mark}
 use Rattle.anim_names.specs.Lists.{BeginsWith}
 use Rattle.run_laws.specs.Hearing.{HeardOnce, CountsAddUp, totals, batches, batch_of_step, batch_of_letter}
-use Rattle.tree_commit.specs.Marks.{event_of}
-use Rattle.tree_commit.specs.Scripts.{StepOfMain, EditStep, CommitStep, DrainStep, ScriptLists}
-use Rattle.tree_commit.specs.Runs.{Lanes, MainLane, beginning, after_letter, after, main_step, main_takes, after_drain, unheard_events, closing_report}
+use Rattle.run_rules.specs.Marks.{event_of}
+use Rattle.run_rules.specs.Scripts.{StepOfMain, EditStep, CommitStep, DrainStep, ScriptLists}
+use Rattle.run_rules.specs.Runs.{Lanes, MainLane, beginning, after_letter, after, main_step, main_takes, after_drain, unheard_events, closing_report}
 use Rattle.run_laws.proofs.WordLemmas.{letter_grows}
 
 -- the batches, one behind the other

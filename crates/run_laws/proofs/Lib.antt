@@ -3,6 +3,7 @@ pub mod AddedModels
 pub mod Births
 pub mod BookLaws
 pub mod BookLemmas
+pub mod CompositorSteps
 pub mod CountLaws
 pub mod EndLaws
 pub mod EventLaws
@@ -21,6 +22,7 @@ pub mod RunFits
 pub mod RunningLemmas
 pub mod ShownLaws
 pub mod StartFits
+pub mod StartLemmas
 pub mod StepLemmas
 pub mod TreeLaws
 pub mod WordLemmas

@@ -1,11 +1,10 @@
 -- Commits of one line: each fits the births of the script, and each later one goes on from those before it.
 use Rattle.std.proofs.Common.{◌≡◌, ℕ, ◌≤◌, ◌<◌, Bool, true, false, cond, List, [], ◌∷◌, ◌++◌, length, refl, sym, ap, subst, ◌⊎◌, inl, inr, arith}
-use Rattle.anim_names.specs.Lists.{BeginsWith}
+use Rattle.anim_names.specs.Lists.{BeginsWith, IsAmong}
 use Rattle.keyframe_model.specs.Models.{Spec}
 use Rattle.tree_commit.specs.Trees.{Clock, Committed, empty_commit}
 use Rattle.tree_commit.specs.Tables.{has_timeline}
 use Rattle.tree_commit.specs.Edits.{without}
-use Rattle.tree_commit.specs.Follows.{IsAmong}
 use Rattle.tree_commit.proofs.Among.{among-without, among-append_cases}
 use Rattle.run_laws.proofs.Births.{Birth, birth}
 

@@ -7,10 +7,10 @@ use Rattle.anim_names.specs.declared.limit.TheConstants.{MOST_COMMITS}
 use Rattle.keyframe_model.specs.Models.{Spec}
 use Rattle.tree_commit.specs.Trees.{TreeLists, Clock, Committed, next_commit}
 use Rattle.tree_commit.specs.Tables.{has_timeline}
-use Rattle.tree_commit.specs.Edits.{AddTimeline, AddModel, Book, is_in, edit_refusal, tree_after}
-use Rattle.tree_commit.specs.Scripts.{are_allowed}
-use Rattle.tree_commit.specs.Runs.{MainLane}
-use Rattle.tree_commit.specs.Follows.{IsAmong}
+use Rattle.tree_commit.specs.Edits.{OnModels, OnTimelines, AddTimeline, AddModel, Book, is_in, edit_refusal, tree_after}
+use Rattle.run_rules.specs.Scripts.{are_allowed}
+use Rattle.run_rules.specs.Runs.{MainLane}
+use Rattle.anim_names.specs.Lists.{IsAmong}
 use Rattle.run_laws.specs.MainTree.{IsWithinLimits}
 use Rattle.tree_commit.proofs.Among.{among-append_cases, any-among}
 use Rattle.run_laws.proofs.Births.{Birth, birth, births, AreOfOneScript, accepted, not_refused}
@@ -44,7 +44,7 @@ apart-last (one ∷ models) model apart new = (λ other h same. go other same (a
     go other same (inr (inl e)) = new one (inl refl) (same ∙ ap (λ m. m.id) e)
     go other same (inr (inr h)) = h
 
-pub fits-add_model : (born : List Birth) (book : Book) (n : ℕ) (tree : TreeLists) (model : Spec) → is_none (edit_refusal book (AddModel model)) ≡ true → IsAmong (birth model n) born → BookFits book tree → FitsBirths born (next_commit n tree) → FitsBirths born (next_commit n (tree_after tree (AddModel model)))
+pub fits-add_model : (born : List Birth) (book : Book) (n : ℕ) (tree : TreeLists) (model : Spec) → is_none (edit_refusal book (OnModels (AddModel model))) ≡ true → IsAmong (birth model n) born → BookFits book tree → FitsBirths born (next_commit n tree) → FitsBirths born (next_commit n (tree_after tree (OnModels (AddModel model))))
 unfolding tree_after
 fits-add_model born book n tree model allowed added fits h = record {
   born_before = λ one a. born_before one (among-append_cases one tree.models (model ∷ []) a);
@@ -69,7 +69,7 @@ fits-add_model born book n tree model allowed added fits h = record {
     timelines one (inr (inl e)) = subst (λ m. has_timeline tree m.timeline ≡ true) (sym e) there
     timelines one (inr (inr a)) = absurd a
 
-pub precedes-add_model : (born : List Birth) (n : ℕ) (tree : TreeLists) (model : Spec) → AreOfOneScript born → IsAmong (birth model n) born → (older : Committed) → older.number ≤ n → Precedes born older (next_commit n tree) → Precedes born older (next_commit n (tree_after tree (AddModel model)))
+pub precedes-add_model : (born : List Birth) (n : ℕ) (tree : TreeLists) (model : Spec) → AreOfOneScript born → IsAmong (birth model n) born → (older : Committed) → older.number ≤ n → Precedes born older (next_commit n tree) → Precedes born older (next_commit n (tree_after tree (OnModels (AddModel model))))
 unfolding tree_after
 precedes-add_model born n tree model script added older made h = record {
   number = h.number;
@@ -85,7 +85,7 @@ precedes-add_model born n tree model script added older made h = record {
         absurd (omega (arith, when, under, made))
     go one before among under (inr (inr a)) = absurd a
 
-pub fits-add_timeline : (born : List Birth) (book : Book) (n : ℕ) (tree : TreeLists) (id origin : ℕ) → is_none (edit_refusal book (AddTimeline id origin)) ≡ true → BookFits book tree → FitsBirths born (next_commit n tree) → FitsBirths born (next_commit n (tree_after tree (AddTimeline id origin)))
+pub fits-add_timeline : (born : List Birth) (book : Book) (n : ℕ) (tree : TreeLists) (id origin : ℕ) → is_none (edit_refusal book (OnTimelines (AddTimeline id origin))) ≡ true → BookFits book tree → FitsBirths born (next_commit n tree) → FitsBirths born (next_commit n (tree_after tree (OnTimelines (AddTimeline id origin))))
 unfolding tree_after edit_refusal
 fits-add_timeline born book n tree id origin allowed fits h = record {
   born_before = h.born_before;
@@ -112,7 +112,7 @@ fits-add_timeline born book n tree id origin allowed fits h = record {
     clocks one other (inr (inl e)) (inr (inr b)) same = absurd b
     clocks one other (inr (inr a)) b same = absurd a
 
-pub precedes-add_timeline : (born : List Birth) (n : ℕ) (tree : TreeLists) (id origin : ℕ) (older : Committed) → Precedes born older (next_commit n tree) → Precedes born older (next_commit n (tree_after tree (AddTimeline id origin)))
+pub precedes-add_timeline : (born : List Birth) (n : ℕ) (tree : TreeLists) (id origin : ℕ) (older : Committed) → Precedes born older (next_commit n tree) → Precedes born older (next_commit n (tree_after tree (OnTimelines (AddTimeline id origin))))
 unfolding tree_after
 precedes-add_timeline born n tree id origin older h = record {
   number = h.number;

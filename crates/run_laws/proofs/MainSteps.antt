@@ -7,12 +7,12 @@ use Rattle.anim_names.specs.declared.limit.TheConstants.{MOST_COMMITS}
 use Rattle.anim_names.specs.declared.event.AnimEvent.{AnimEvent}
 use Rattle.anim_delegate.specs.Table.{verdict_on, is_retire}
 use Rattle.keyframe_model.specs.Models.{Spec}
-use Rattle.tree_commit.specs.declared.runs.mark.Mark.{Mark}
+use Rattle.run_rules.specs.declared.mark.Mark.{Mark}
 use Rattle.tree_commit.specs.Trees.{TreeLists, Committed, next_commit, model_with}
-use Rattle.tree_commit.specs.Edits.{Change, AddElement, RemoveElement, SetOpacity, SetTransform, AddTimeline, AddModel, RemoveModel, Book, edit_refusal, book_after, book_after_commit, tree_after, without_model}
-use Rattle.tree_commit.specs.Scripts.{StepOfMain, EditStep, CommitStep, DrainStep, are_allowed, book_after_step}
-use Rattle.tree_commit.specs.Runs.{MainLane, tree_after_hearing, tree_after_verdict, model_of_event, after_drain, unheard_events, main_makes, main_takes}
-use Rattle.tree_commit.specs.Follows.{IsAmong}
+use Rattle.tree_commit.specs.Edits.{OnModels, OnTimelines, OnElements, Change, AddTimeline, AddModel, RemoveModel, Book, edit_refusal, book_after, book_after_commit, tree_after, without_model}
+use Rattle.run_rules.specs.Scripts.{StepOfMain, EditStep, CommitStep, DrainStep, are_allowed, book_after_step}
+use Rattle.run_rules.specs.Runs.{MainLane, tree_after_hearing, tree_after_verdict, model_of_event, after_drain, unheard_events, main_makes, main_takes}
+use Rattle.anim_names.specs.Lists.{IsAmong}
 use Rattle.run_laws.specs.MainTree.{IsWithinLimits}
 use Rattle.tree_commit.proofs.Among.{among-append_cases}
 use Rattle.run_laws.proofs.Births.{Birth, birth, births, births_of, AreOfOneScript, commits-edit}
@@ -39,41 +39,32 @@ next_of born book lane h = record { fits = h.now; before = h.before }
 
 next-edit : (born : List Birth) (book : Book) (lane : MainLane) (change : Change) → AreOfOneScript born → MainFits born book lane → is_none (edit_refusal book change) ≡ true → ((b : Birth) → IsAmong b (births_of (length lane.commits) change []) → IsAmong b born) → IsNext born lane.commits (tree_after lane.tree change)
 unfolding tree_after
-next-edit born book lane (AddElement id look) script h allowed added = next-thin born lane.commits lane.tree _ refl (thin_same lane.tree.models) (next_of born book lane h)
-next-edit born book lane (RemoveElement id) script h allowed added = next-thin born lane.commits lane.tree _ refl (thin_same lane.tree.models) (next_of born book lane h)
-next-edit born book lane (SetOpacity id opacity) script h allowed added = next-thin born lane.commits lane.tree _ refl (thin_same lane.tree.models) (next_of born book lane h)
-next-edit born book lane (SetTransform id transform) script h allowed added = next-thin born lane.commits lane.tree _ refl (thin_same lane.tree.models) (next_of born book lane h)
-next-edit born book lane (AddTimeline id origin) script h allowed added = record {
+next-edit born book lane (OnElements elements) script h allowed added = next-thin born lane.commits lane.tree _ refl (thin_same lane.tree.models) (next_of born book lane h)
+next-edit born book lane (OnTimelines (AddTimeline id origin)) script h allowed added = record {
   fits = fits-add_timeline born book (length lane.commits) lane.tree id origin allowed h.together h.now;
   before = λ commit a. precedes-add_timeline born (length lane.commits) lane.tree id origin commit (h.before commit a);
 }
-next-edit born book lane (AddModel model) script h allowed added =
+next-edit born book lane (OnModels (AddModel model)) script h allowed added =
     let mine : IsAmong (birth model (length lane.commits)) born = added (birth model (length lane.commits)) (inl refl) in
     record {
       fits = fits-add_model born book (length lane.commits) lane.tree model allowed mine h.together h.now;
       before = λ commit a. precedes-add_model born (length lane.commits) lane.tree model script mine commit (h.numbered commit a).1 (h.before commit a);
     }
-next-edit born book lane (RemoveModel id) script h allowed added = next-thin born lane.commits lane.tree _ refl (thin_without (λ model. id == model.id) lane.tree.models) (next_of born book lane h)
+next-edit born book lane (OnModels (RemoveModel id)) script h allowed added = next-thin born lane.commits lane.tree _ refl (thin_without (λ model. id == model.id) lane.tree.models) (next_of born book lane h)
 
 -- the births of the steps behind an edit, and that of the edit
 births-behind : (n : ℕ) (change : Change) (behind : List Birth) (b : Birth) → IsAmong b behind → IsAmong b (births_of n change behind)
-births-behind n (AddElement id look) behind b h = h
-births-behind n (RemoveElement id) behind b h = h
-births-behind n (SetOpacity id opacity) behind b h = h
-births-behind n (SetTransform id transform) behind b h = h
-births-behind n (AddTimeline id origin) behind b h = h
-births-behind n (AddModel model) behind b h = inr h
-births-behind n (RemoveModel id) behind b h = h
+births-behind n (OnElements elements) behind b h = h
+births-behind n (OnTimelines timelines) behind b h = h
+births-behind n (OnModels (AddModel model)) behind b h = inr h
+births-behind n (OnModels (RemoveModel id)) behind b h = h
 
 births-own : (n : ℕ) (change : Change) (behind : List Birth) (b : Birth) → IsAmong b (births_of n change []) → IsAmong b (births_of n change behind)
-births-own n (AddElement id look) behind b h = absurd h
-births-own n (RemoveElement id) behind b h = absurd h
-births-own n (SetOpacity id opacity) behind b h = absurd h
-births-own n (SetTransform id transform) behind b h = absurd h
-births-own n (AddTimeline id origin) behind b h = absurd h
-births-own n (AddModel model) behind b (inl e) = inl e
-births-own n (AddModel model) behind b (inr h) = absurd h
-births-own n (RemoveModel id) behind b h = absurd h
+births-own n (OnElements elements) behind b h = absurd h
+births-own n (OnTimelines timelines) behind b h = absurd h
+births-own n (OnModels (AddModel model)) behind b (inl e) = inl e
+births-own n (OnModels (AddModel model)) behind b (inr h) = absurd h
+births-own n (OnModels (RemoveModel id)) behind b h = absurd h
 
 main-edit : (born : List Birth) (book : Book) (marks : List Mark) (change : Change) (left : List StepOfMain) (lane : MainLane) → AreOfOneScript born → lane.left ≡ EditStep change ∷ left → MainFits born book lane → MainFits born (book_after book change) (main_makes marks (EditStep change) (record lane { left = left }))
 unfolding are_allowed

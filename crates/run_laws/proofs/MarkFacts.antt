@@ -1,16 +1,18 @@
 -- What more marks change of what is read off them.
-use Rattle.std.proofs.Common.{◌≡◌, ℕ, Bool, true, false, not, ◌&&◌, ◌||◌, cond, List, [], ◌∷◌, ◌++◌, map, filter, refl, sym, ap, ◌∙◌, subst, ◌⊎◌, inl, inr, append_assoc}
+use Rattle.std.proofs.Common.{◌≡◌, ℕ, Bool, true, false, ◌&&◌, ◌||◌, cond, List, [], ◌∷◌, ◌++◌, map, filter, refl, sym, ap, ◌∙◌, subst, ◌⊎◌, inl, inr, append_assoc}
 use Rattle.std.specs.List.{list_any}
-use Rattle.std.proofs.lemmas.Bool.{false≢true, and_parts, and_from, or_parts, or_left, eqb-true, not-true, not_from_false}
+use Rattle.std.proofs.lemmas.Bool.{false≢true, and_parts, and_from, or_parts, or_left}
 use Rattle.std.proofs.lemmas.List.{append-nil}
 use Rattle.std.proofs.lemmas.List.Folds.{list_any-append}
 use Rattle.anim_names.specs.declared.property.Property.{Property}
 use Rattle.keyframe_model.specs.Models.{Spec}
-use Rattle.tree_commit.specs.declared.runs.mark.Mark.{Mark}
-use Rattle.tree_commit.specs.declared.runs.mark.Mark.TheVariants.{Started, Finished, Aborted}
-use Rattle.tree_commit.specs.Marks.{model_of, starts, ends, starts_in, starts_on, is_ended, is_group_running, blocks}
-use Rattle.tree_commit.specs.Follows.{IsAmong}
-use Rattle.run_laws.specs.Ends.{may_follow, is_finished, is_group_finished}
+use Rattle.run_rules.specs.declared.mark.Mark.{Mark}
+use Rattle.run_rules.specs.declared.mark.Mark.TheVariants.{OfModel}
+use Rattle.run_rules.specs.Marks.{model_of, starts, ends, starts_in, starts_on, is_group_unfinished, blocks, says, is_start, is_end}
+use Rattle.run_rules.specs.declared.mark.ModelMark.{ModelMark}
+use Rattle.run_rules.proofs.MarkLemmas.{says-model, unfinished-from, unfinished-mark}
+use Rattle.anim_names.specs.Lists.{IsAmong}
+use Rattle.run_laws.specs.Ends.{may_follow, is_finished, is_group_finished, starts_finished}
 use Rattle.tree_commit.proofs.Among.{among-append_cases, among-filter, any-among, any-cases, any-none}
 use Rattle.run_laws.proofs.Lines.{AreApart}
 
@@ -40,37 +42,16 @@ apart-filter p (model ∷ models) h = go (p model) (apart-filter p models h.1)
 
 -- ---- a mark of another model
 
-pub starts-about : (id : ℕ) (mark : Mark) → starts id mark ≡ true → id ≡ model_of mark
-starts-about id (Started model group element property at start) h = eqb-true id model h
-starts-about id (Finished model at) h = absurd (false≢true h)
-starts-about id (Aborted model commit) h = absurd (false≢true h)
-
-pub ends-about : (id : ℕ) (mark : Mark) → ends id mark ≡ true → id ≡ model_of mark
-ends-about id (Started model group element property at start) h = absurd (false≢true h)
-ends-about id (Finished model at) h = eqb-true id model h
-ends-about id (Aborted model commit) h = eqb-true id model h
-
-no-start : (id : ℕ) (mark : Mark) → (id ≡ model_of mark → ⊥) → list_any (starts id) (mark ∷ []) ≡ false
-no-start id mark other = any-none (starts id) (mark ∷ []) go
+no-mark : (test : ModelMark → Bool) (id : ℕ) (mark : Mark) → (id ≡ model_of mark → ⊥) → list_any (says test id) (mark ∷ []) ≡ false
+no-mark test id mark other = any-none (says test id) (mark ∷ []) go
   where
-    go : (x : Mark) → IsAmong x (mark ∷ []) → starts id x ≡ true → ⊥
-    go x (inl e) h = other (starts-about id mark (ap (starts id) (sym e) ∙ h))
-    go x (inr a) h = absurd a
-
-no-end : (id : ℕ) (mark : Mark) → (id ≡ model_of mark → ⊥) → list_any (ends id) (mark ∷ []) ≡ false
-no-end id mark other = any-none (ends id) (mark ∷ []) go
-  where
-    go : (x : Mark) → IsAmong x (mark ∷ []) → ends id x ≡ true → ⊥
-    go x (inl e) h = other (ends-about id mark (ap (ends id) (sym e) ∙ h))
+    go : (x : Mark) → IsAmong x (mark ∷ []) → says test id x ≡ true → ⊥
+    go x (inl e) h = other (says-model test id mark (ap (says test id) (sym e) ∙ h))
     go x (inr a) h = absurd a
 
 follow-other : (before : List Mark) (new mark : Mark) → (model_of mark ≡ model_of new → ⊥) → may_follow before mark ≡ true → may_follow (before ++ new ∷ []) mark ≡ true
-follow-other before new (Started model group element property at start) other h =
-    rw (any-same (starts model) before (new ∷ []) (no-start model new other), any-same (ends model) before (new ∷ []) (no-end model new other)) h
-follow-other before new (Finished model at) other h =
-    rw (any-same (starts model) before (new ∷ []) (no-start model new other), any-same (ends model) before (new ∷ []) (no-end model new other)) h
-follow-other before new (Aborted model commit) other h =
-    rw (any-same (ends model) before (new ∷ []) (no-end model new other)) h
+follow-other before new (OfModel model what) other h =
+    rw (any-same (starts model) before (new ∷ []) (no-mark is_start model new other), any-same (ends model) before (new ∷ []) (no-mark is_end model new other)) h
 
 -- ---- marks in order
 
@@ -94,36 +75,30 @@ order-apart before f about (model ∷ models) apart allowed = (
 
 -- ---- what a group does
 
-pub running-mark : (marks : List Mark) (group : ℕ) → is_group_running marks group ≡ true → (mark : Mark) × IsAmong mark marks × (starts_in group mark ≡ true) × (is_ended marks (model_of mark) ≡ false)
-running-mark marks group h =
-    let found = any-cases (λ mark. starts_in group mark && not (is_ended marks (model_of mark))) marks h in
-    let both = and_parts (starts_in group found.0) _ found.2 in
-    (found.0, found.1, both.0, not-true _ both.1)
-
-pub running-from : (marks : List Mark) (group : ℕ) (mark : Mark) → IsAmong mark marks → starts_in group mark ≡ true → is_ended marks (model_of mark) ≡ false → is_group_running marks group ≡ true
-running-from marks group mark a starts unended =
-    any-among (λ mark. starts_in group mark && not (is_ended marks (model_of mark))) mark marks a (and_from _ _ starts (not_from_false _ unended))
-
-pub blocks-mark : (marks : List Mark) (group element : ℕ) (property : Property) → blocks marks group element property ≡ true → (is_group_running marks group ≡ true) × ((mark : Mark) × IsAmong mark marks × (starts_in group mark ≡ true) × (starts_on element property mark ≡ true))
+pub blocks-mark : (marks : List Mark) (group element : ℕ) (property : Property) → blocks marks group element property ≡ true → (is_group_unfinished marks group ≡ true) × ((mark : Mark) × IsAmong mark marks × (starts_in group mark ≡ true) × (starts_on element property mark ≡ true))
 blocks-mark marks group element property h =
-    let both = and_parts (is_group_running marks group) _ h in
+    let both = and_parts (is_group_unfinished marks group) _ h in
     let found = any-cases (λ mark. starts_in group mark && starts_on element property mark) marks both.1 in
     let parts = and_parts (starts_in group found.0) _ found.2 in
     (both.0, (found.0, found.1, parts.0, parts.1))
 
-pub blocks-from : (marks : List Mark) (group element : ℕ) (property : Property) (mark : Mark) → is_group_running marks group ≡ true → IsAmong mark marks → starts_in group mark ≡ true → starts_on element property mark ≡ true → blocks marks group element property ≡ true
+pub blocks-from : (marks : List Mark) (group element : ℕ) (property : Property) (mark : Mark) → is_group_unfinished marks group ≡ true → IsAmong mark marks → starts_in group mark ≡ true → starts_on element property mark ≡ true → blocks marks group element property ≡ true
 blocks-from marks group element property mark running a starts on =
     and_from _ _ running (any-among (λ mark. starts_in group mark && starts_on element property mark) mark marks a (and_from _ _ starts on))
 
+-- the start of a finished model in a group, by its two parts
+starts_finished-parts : (marks : List Mark) (group : ℕ) (mark : Mark) → starts_finished marks group mark ≡ (starts_in group mark && is_finished marks (model_of mark))
+starts_finished-parts marks group (OfModel model what) = refl
+
 pub finished-mark : (marks : List Mark) (group : ℕ) → is_group_finished marks group ≡ true → (mark : Mark) × IsAmong mark marks × (starts_in group mark ≡ true) × (is_finished marks (model_of mark) ≡ true)
 finished-mark marks group h =
-    let found = any-cases (λ mark. starts_in group mark && is_finished marks (model_of mark)) marks h in
-    let both = and_parts (starts_in group found.0) _ found.2 in
+    let found = any-cases (starts_finished marks group) marks h in
+    let both = and_parts (starts_in group found.0) _ (sym (starts_finished-parts marks group found.0) ∙ found.2) in
     (found.0, found.1, both.0, both.1)
 
 pub finished-from : (marks : List Mark) (group : ℕ) (mark : Mark) → IsAmong mark marks → starts_in group mark ≡ true → is_finished marks (model_of mark) ≡ true → is_group_finished marks group ≡ true
 finished-from marks group mark a starts finished =
-    any-among (λ mark. starts_in group mark && is_finished marks (model_of mark)) mark marks a (and_from _ _ starts finished)
+    any-among (starts_finished marks group) mark marks a (starts_finished-parts marks group mark ∙ and_from _ _ starts finished)
 
 -- the new marks start nothing in the group
 abbrev pub NoStartIn : ℕ → List Mark → Type 0
@@ -137,10 +112,10 @@ start-before group marks new mark none a starts = go (among-append_cases mark ma
     go (inl h) = h
     go (inr h) = absurd (none mark h starts)
 
-pub running-before : (marks new : List Mark) (group : ℕ) → NoStartIn group new → is_group_running (marks ++ new) group ≡ true → is_group_running marks group ≡ true
+pub running-before : (marks new : List Mark) (group : ℕ) → NoStartIn group new → is_group_unfinished (marks ++ new) group ≡ true → is_group_unfinished marks group ≡ true
 running-before marks new group none h =
-    let found = running-mark (marks ++ new) group h in
-    running-from marks group found.0 (start-before group marks new found.0 none found.1 found.2) found.2 (any-fewer (ends (model_of found.0)) marks new found.3)
+    let found = unfinished-mark (marks ++ new) group h in
+    unfinished-from marks group found.0 (start-before group marks new found.0 none found.1 found.2) found.2 (any-fewer (ends (model_of found.0)) marks new found.3)
 
 pub blocks-before : (marks new : List Mark) (group element : ℕ) (property : Property) → NoStartIn group new → blocks (marks ++ new) group element property ≡ true → blocks marks group element property ≡ true
 blocks-before marks new group element property none h =
@@ -148,9 +123,9 @@ blocks-before marks new group element property none h =
     blocks-from marks group element property found.1.0 (running-before marks new group none found.0) (start-before group marks new found.1.0 none found.1.1 found.1.2) found.1.2 found.1.3
 
 -- a group that does not run does not run later, where nothing of it starts
-pub still-idle : (marks new : List Mark) (group : ℕ) → NoStartIn group new → is_group_running marks group ≡ false → is_group_running (marks ++ new) group ≡ false
-still-idle marks new group none h = go (is_group_running (marks ++ new) group) refl
+pub still-idle : (marks new : List Mark) (group : ℕ) → NoStartIn group new → is_group_unfinished marks group ≡ false → is_group_unfinished (marks ++ new) group ≡ false
+still-idle marks new group none h = go (is_group_unfinished (marks ++ new) group) refl
   where
-    go : (runs : Bool) → is_group_running (marks ++ new) group ≡ runs → runs ≡ false
+    go : (runs : Bool) → is_group_unfinished (marks ++ new) group ≡ runs → runs ≡ false
     go true e = absurd (false≢true (sym h ∙ running-before marks new group none e))
     go false e = refl

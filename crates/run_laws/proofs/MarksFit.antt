@@ -1,29 +1,31 @@
 -- What stays true of the marks along a run, and marks that end models.
-use Rattle.std.proofs.Common.{◌≡◌, ℕ, ◌<◌, ◌==◌, true, false, List, [], refl, sym, ap, ◌∙◌}
+use Rattle.std.proofs.Common.{◌≡◌, ℕ, ◌<◌, ◌==◌, true, false, List, [], sym, ap, ◌∙◌}
 use Rattle.std.specs.List.{list_any}
 use Rattle.std.proofs.lemmas.Bool.{false≢true, eqb-true, eq-eqb}
 use Rattle.anim_names.specs.declared.property.Property.{Property}
 use Rattle.keyframe_model.specs.Models.{Spec, property_of}
-use Rattle.tree_commit.specs.declared.runs.mark.Mark.{Mark}
-use Rattle.tree_commit.specs.declared.runs.mark.Mark.TheVariants.{Started, Finished, Aborted}
+use Rattle.run_rules.specs.declared.mark.Mark.{Mark}
+use Rattle.run_rules.specs.declared.mark.Mark.TheVariants.{OfModel}
 use Rattle.tree_commit.specs.Trees.{TreeLists, Committed, has_model}
-use Rattle.tree_commit.specs.Marks.{model_of, starts, starts_in, is_started, is_ended, is_running, is_group_running, blocks}
-use Rattle.tree_commit.specs.Follows.{IsAmong}
+use Rattle.run_rules.specs.Marks.{model_of, starts, starts_in, is_started, is_ended, is_unfinished, is_group_unfinished, blocks, is_start}
+use Rattle.run_rules.proofs.MarkLemmas.{says-what}
+use Rattle.anim_names.specs.Lists.{IsAmong}
 use Rattle.run_laws.specs.Ends.{is_group_finished}
 use Rattle.run_laws.specs.Groups.{StartsAgree}
 use Rattle.tree_commit.proofs.Among.{any-cases}
 use Rattle.run_laws.proofs.Births.{Birth, birth, AreOfOneScript}
 use Rattle.run_laws.proofs.Lines.{FitsBirths}
 use Rattle.run_laws.proofs.MarkFacts.{AreInOrder}
+use Rattle.run_laws.specs.Starts.{IfBegan}
+use Rattle.run_laws.proofs.StartLemmas.{began-so, began-weaker}
 
 -- ---- whose a mark is
 
 -- the mark is about the model, with what the model has
 abbrev pub IsAbout : Spec → Mark → Type 0
-IsAbout model (Started id group element property at start) =
-    (id ≡ model.id) × (group ≡ model.group) × (element ≡ model.element) × (property ≡ property_of model)
-IsAbout model (Finished id at) = id ≡ model.id
-IsAbout model (Aborted id commit) = id ≡ model.id
+IsAbout model (OfModel id what) =
+    (id ≡ model.id)
+    × IfBegan (λ begun. (begun.group ≡ model.group) × (begun.element ≡ model.element) × (begun.property ≡ property_of model)) what
 
 -- the mark is of a model that was added before this many commits
 pub record IsOfBirth (born : List Birth) (number : ℕ) (mark : Mark) : Type 0 where
@@ -33,47 +35,38 @@ pub record IsOfBirth (born : List Birth) (number : ℕ) (mark : Mark) : Type 0 w
   pub under : before < number
   pub about : IsAbout model mark
 
-pub about-model : (model : Spec) (mark : Mark) → IsAbout model mark → model_of mark ≡ model.id
-about-model model (Started id group element property at start) h = h.0
-about-model model (Finished id at) h = h
-about-model model (Aborted id commit) h = h
+pub about-id : (model : Spec) (mark : Mark) → IsAbout model mark → model_of mark ≡ model.id
+about-id model (OfModel id what) h = h.0
 
 pub about-group : (model : Spec) (mark : Mark) (group : ℕ) → IsAbout model mark → starts_in group mark ≡ true → group ≡ model.group
-about-group model (Started id g element property at start) group h s = eqb-true group g s ∙ h.1
-about-group model (Finished id at) group h s = absurd (false≢true s)
-about-group model (Aborted id commit) group h s = absurd (false≢true s)
+about-group model (OfModel id what) group h s =
+    let found = began-so _ (λ begun. group == begun.group) what h.1 s in eqb-true group found.0.group found.2 ∙ found.1.0
 
--- a mark that starts in a group starts the model that it is about
-pub about-starts : (group : ℕ) (mark : Mark) → starts_in group mark ≡ true → starts (model_of mark) mark ≡ true
-about-starts group (Started id g element property at start) s = eq-eqb id id refl
-about-starts group (Finished id at) s = absurd (false≢true s)
-about-starts group (Aborted id commit) s = absurd (false≢true s)
-
--- and a mark that starts a model starts in the group of that
+-- a mark that starts a model starts in the group of that
 pub about-starts_in : (model : Spec) (mark : Mark) (id : ℕ) → IsAbout model mark → starts id mark ≡ true → starts_in model.group mark ≡ true
-about-starts_in model (Started other group element property at start) id h s = eq-eqb model.group group (sym h.1)
-about-starts_in model (Finished other at) id h s = absurd (false≢true s)
-about-starts_in model (Aborted other commit) id h s = absurd (false≢true s)
+about-starts_in model (OfModel other what) id h s =
+    began-weaker _ (λ begun. true) (λ begun. model.group == begun.group) (λ begun parts started. eq-eqb model.group begun.group (sym parts.0)) what h.1
+    (says-what is_start id other what s)
 
 -- of one birth in a script and a mark with that model's id
 pub of_same_model : (born : List Birth) (number : ℕ) (mark : Mark) (model : Spec) (before : ℕ) → AreOfOneScript born → IsAmong (birth model before) born → (h : IsOfBirth born number mark) → model_of mark ≡ model.id → (h.model ≡ model) × (h.before ≡ before)
 of_same_model born number mark model before script among h same =
-    let one = script.one (birth h.model h.before) (birth model before) h.among among (sym (about-model h.model mark h.about) ∙ same) in
+    let one = script.one (birth h.model h.before) (birth model before) h.among among (sym (about-id h.model mark h.about) ∙ same) in
     (ap (λ b. b.model) one, ap (λ b. b.before) one)
 
 -- ---- what stays along a run
 
-pub record MarksFit (born : List Birth) (active : Committed) (marks : List Mark) : Type 0 where
+pub record MarksFitBirths (born : List Birth) (active : Committed) (marks : List Mark) : Type 0 where
   pub of_births : (mark : Mark) → IsAmong mark marks → IsOfBirth born active.number mark
   pub order : AreInOrder [] marks
-  pub running : (id : ℕ) → is_running marks id ≡ true → has_model active.tree id ≡ true
+  pub running : (id : ℕ) → is_unfinished marks id ≡ true → has_model active.tree id ≡ true
   pub ended : (model : Spec) → IsAmong model active.tree.models → is_ended marks model.id ≡ true → is_started marks model.id ≡ true
   pub grouped : (model : Spec) → IsAmong model active.tree.models → list_any (starts_in model.group) marks ≡ true → is_started marks model.id ≡ true
   pub alike : StartsAgree marks
   pub blocker : (one other element : ℕ) (property : Property) → blocks marks one element property ≡ true → blocks marks other element property ≡ true → one ≡ other
-  pub finished : (group : ℕ) → is_group_finished marks group ≡ true → is_group_running marks group ≡ false
+  pub finished : (group : ℕ) → is_group_finished marks group ≡ true → is_group_unfinished marks group ≡ false
 
-pub no_marks_fit : (born : List Birth) (active : Committed) → MarksFit born active []
+pub no_marks_fit : (born : List Birth) (active : Committed) → MarksFitBirths born active []
 no_marks_fit born active = record {
   of_births = λ mark a. absurd a;
   order = tt;

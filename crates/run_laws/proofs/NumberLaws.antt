@@ -10,18 +10,20 @@ use Rattle.anim_names.specs.declared.lane.Lane.TheVariants.{Main, Compositor}
 use Rattle.anim_names.specs.Lanes.{letters_of}
 use Rattle.anim_timeline.specs.declared.TheConstants.{LAST_TIME}
 use Rattle.keyframe_model.specs.Models.{Spec, IsModel}
-use Rattle.tree_commit.specs.declared.runs.mark.Mark.{Mark}
-use Rattle.tree_commit.specs.declared.runs.mark.Mark.TheVariants.{Started, Finished, Aborted}
-use Rattle.tree_commit.specs.declared.runs.shown.Shown.{Shown}
-use Rattle.tree_commit.specs.declared.runs.compositor_step.CompositorStep.{CompositorStep}
-use Rattle.tree_commit.specs.declared.runs.compositor_step.CompositorStep.TheVariants.{Tick}
+use Rattle.run_rules.specs.declared.mark.Mark.{Mark}
+use Rattle.run_rules.specs.declared.mark.Mark.TheVariants.{OfModel}
+use Rattle.run_rules.specs.declared.mark.ModelMark.TheVariants.{Started, Finished, Aborted}
+use Rattle.tree_commit.specs.declared.shown.Shown.{Shown}
+use Rattle.run_rules.specs.declared.compositor_step.CompositorStep.{CompositorStep}
+use Rattle.run_rules.specs.declared.compositor_step.CompositorStep.TheVariants.{Tick}
 use Rattle.tree_commit.specs.Trees.{TreeLists, Clock, Committed, empty_commit, next_commit, origin_of, time_of}
 use Rattle.tree_commit.specs.Ranges.{IsChange}
-use Rattle.tree_commit.specs.Edits.{Change, AddElement, RemoveElement, SetOpacity, SetTransform, AddTimeline, AddModel, RemoveModel, tree_after}
-use Rattle.tree_commit.specs.Marks.{start_from, recorded_start}
-use Rattle.tree_commit.specs.Scripts.{ScriptLists, StepOfMain, EditStep, CommitStep, DrainStep, IsStep, IsWellFormed, ticks_of, are_at_most}
-use Rattle.tree_commit.specs.Runs.{Lanes, MainLane, beginning, after_letter, after, main_takes, main_step, after_drain, unheard_events}
-use Rattle.tree_commit.specs.Follows.{IsAmong}
+use Rattle.tree_commit.specs.Edits.{OnModels, OnTimelines, OnElements, Change, AddTimeline, AddModel, tree_after}
+use Rattle.run_rules.specs.Marks.{start_from, recorded_start, start_or}
+use Rattle.run_rules.specs.Scripts.{ScriptLists, StepOfMain, EditStep, CommitStep, DrainStep, IsStep, IsWellFormed, ticks_of, are_at_most}
+use Rattle.run_rules.specs.Runs.{Lanes, MainLane, beginning, after_letter, after, main_takes, main_step, after_drain, unheard_events}
+use Rattle.run_rules.specs.declared.mark.ModelMark.{ModelMark}
+use Rattle.anim_names.specs.Lists.{IsAmong}
 use Rattle.run_laws.specs.Steps.{new_marks}
 use Rattle.run_laws.specs.Shown.{lanes_at}
 use Rattle.run_laws.specs.Numbers.{HasSmallStart, StartsAreSmall, LocalTimesAreSmall}
@@ -31,7 +33,7 @@ use Rattle.run_laws.proofs.RunFits.{run_fits, active_fits}
 use Rattle.run_laws.proofs.MainSteps.{thin-heard}
 use Rattle.run_laws.proofs.CountLaws.{compositor-left}
 use Rattle.run_laws.proofs.StartFits.{among-cons_option}
-use Rattle.run_laws.proofs.GroupLaws.{Kind, is_finish, is_start, is_abort, kind_of}
+use Rattle.run_laws.proofs.GroupLaws.{Kind, by_finish, by_start, by_abort, kind_of}
 use Rattle.run_laws.proofs.StepLemmas.{new-mark, new-split}
 use Rattle.run_laws.proofs.ShownLaws.{along_words, at_next}
 
@@ -76,13 +78,9 @@ more-clocks clocks new small h clock a = go (among-append_cases clock clocks (ne
 
 clocks-edit : (tree : TreeLists) (change : Change) → IsChange change → SmallClocks tree.timelines → SmallClocks (tree_after tree change).timelines
 unfolding tree_after
-clocks-edit tree (AddElement id look) is h = h
-clocks-edit tree (RemoveElement id) is h = h
-clocks-edit tree (SetOpacity id opacity) is h = h
-clocks-edit tree (SetTransform id transform) is h = h
-clocks-edit tree (AddTimeline id origin) is h = more-clocks tree.timelines (record { id = id; origin = origin }) is.1 h
-clocks-edit tree (AddModel model) is h = h
-clocks-edit tree (RemoveModel id) is h = h
+clocks-edit tree (OnElements elements) is h = h
+clocks-edit tree (OnTimelines (AddTimeline id origin)) is h = more-clocks tree.timelines (record { id = id; origin = origin }) is.1 h
+clocks-edit tree (OnModels models) is h = h
 
 clocks-next : (marks : List Mark) (left : List StepOfMain) (lane : MainLane) → lane.left ≡ left → ClocksFit lane → ClocksFit (main_takes marks left lane)
 unfolding after_drain
@@ -146,7 +144,7 @@ born_models : (n : ℕ) (steps : List StepOfMain) (b : Birth) → AllByRecursion
 born_models n [] b h a = absurd a
 born_models n (EditStep change ∷ steps) b h a = go (births_of-cases n change (births n steps) b a) (born_models n steps b h.1)
   where
-    go : ((model : Spec) × (change ≡ AddModel model) × (b ≡ birth model n)) ⊎ IsAmong b (births n steps) → (IsAmong b (births n steps) → IsModel b.model) → IsModel b.model
+    go : ((model : Spec) × (change ≡ OnModels (AddModel model)) × (b ≡ birth model n)) ⊎ IsAmong b (births n steps) → (IsAmong b (births n steps) → IsModel b.model) → IsModel b.model
     go (inl (model, same, e)) rest = subst (λ x. IsModel x.model) (sym e) (subst (λ c. IsChange c) same h.0)
     go (inr behind) rest = rest behind
 born_models n (CommitStep ∷ steps) b h a = born_models (n + 1) steps b h.1 a
@@ -157,8 +155,8 @@ recorded-small None time h small = small
 recorded-small (Some start) time h small = h
 
 new_start_small : (script : ScriptLists) → IsWellFormed script → (word : List Lane) (mark : Mark) → Kind (after (beginning script) word) mark → HasSmallStart mark
-new_start_small script well word mark (is_finish time model there running e) = subst HasSmallStart (sym e) tt
-new_start_small script well word mark (is_start time left next is) =
+new_start_small script well word mark (by_finish time model there running e) = subst HasSmallStart (sym e) tt
+new_start_small script well word mark (by_start time left next is) =
     let lanes : Lanes = after (beginning script) word in
     let fits = run_fits script well word in
     let when = (active_fits (births 0 script.main) fits.book lanes.main lanes.compositor.active fits.main fits.compositor.active).born_before is.model is.there in
@@ -166,7 +164,7 @@ new_start_small script well word mark (is_start time left next is) =
     subst HasSmallStart (sym is.is)
     (recorded-small is.model.start (time_of lanes.compositor.active.tree time is.model) may.start
     (time-small lanes.compositor.active.tree time is.model (active_clocks script well word) (next_tick script well word time left next)))
-new_start_small script well word mark (is_abort commit model pending there e) = subst HasSmallStart (sym e) tt
+new_start_small script well word mark (by_abort commit model pending there e) = subst HasSmallStart (sym e) tt
 
 pub starts_are_small : (script : ScriptLists) → IsWellFormed script → (word : List Lane) → StartsAreSmall (after (beginning script) word).compositor.marks
 unfolding after
@@ -183,18 +181,17 @@ starts_are_small script well word = along_words (λ word. StartsAreSmall (lanes_
 
 shown-small : (index : ℕ) (marks : List Mark) (id : ℕ) (shown : Shown) → StartsAreSmall marks → start_from index marks id ≡ Some shown → unsigned_abs shown.start ≤ LAST_TIME
 shown-small index [] id shown h e = absurd (none-some shown e)
-shown-small index (Started model group element property at start ∷ marks) id shown h e = go (id == model) e (shown-small (index + 1) marks id shown (λ mark a. h mark (inr a)))
+shown-small index (OfModel model what ∷ marks) id shown h e =
+    go what (id == model) (h (OfModel model what) (inl refl)) e (shown-small (index + 1) marks id shown (λ mark a. h mark (inr a)))
   where
-    own : Shown
-    own = record { start = start; order = index }
-
-    go : (here : Bool) → cond here (Some own) (start_from (index + 1) marks id) ≡ Some shown → (start_from (index + 1) marks id ≡ Some shown → unsigned_abs shown.start ≤ LAST_TIME) → unsigned_abs shown.start ≤ LAST_TIME
-    go true e rest =
+    go : (what : ModelMark) (here : Bool) → HasSmallStart (OfModel model what) → start_or what here index (start_from (index + 1) marks id) ≡ Some shown → (start_from (index + 1) marks id ≡ Some shown → unsigned_abs shown.start ≤ LAST_TIME) → unsigned_abs shown.start ≤ LAST_TIME
+    go (Started begun) true small e rest =
+        let own : Shown = record { start = begun.start; order = index } in
         let same : own ≡ shown = ap (λ o. unwrap_or o own) e in
-        subst (λ s. unsigned_abs s.start ≤ LAST_TIME) same (h (Started model group element property at start) (inl refl))
-    go false e rest = rest e
-shown-small index (Finished model at ∷ marks) id shown h e = shown-small (index + 1) marks id shown (λ mark a. h mark (inr a)) e
-shown-small index (Aborted model commit ∷ marks) id shown h e = shown-small (index + 1) marks id shown (λ mark a. h mark (inr a)) e
+        subst (λ s. unsigned_abs s.start ≤ LAST_TIME) same small
+    go (Started begun) false small e rest = rest e
+    go (Finished at) here small e rest = rest e
+    go (Aborted commit) here small e rest = rest e
 
 pub local_times_are_small : (script : ScriptLists) → IsWellFormed script → (word : List Lane) → LocalTimesAreSmall script (after (beginning script) word)
 local_times_are_small script well word tick a model there shown e =

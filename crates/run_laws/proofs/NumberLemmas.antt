@@ -2,42 +2,38 @@
 use Rattle.std.proofs.Common.{◌≡◌, ℕ, ◌≤◌, Bool, true, false, ◌&&◌, nat_le, nat_lt, cond, Option, Some, None, List, [], ◌∷◌, ◌++◌, map, refl, subst, arith}
 use Rattle.std.specs.Prelude.{IfSome, is_none}
 use Rattle.std.specs.Cmp.Derive.{both_true}
-use Rattle.std.proofs.lemmas.Bool.{false≢true, leb-true, le-leb, ltb-true}
+use Rattle.std.proofs.lemmas.Bool.{leb-true, le-leb, ltb-true, and_parts}
 use Rattle.std.proofs.lemmas.List.{map-append}
 use Rattle.anim_names.specs.declared.lane.Lane.{Lane}
 use Rattle.anim_names.specs.declared.lane.Lane.TheVariants.{Main, Compositor}
-use Rattle.tree_commit.specs.declared.runs.compositor_step.CompositorStep.{CompositorStep}
-use Rattle.tree_commit.specs.declared.runs.compositor_step.CompositorStep.TheVariants.{Pull, Activate, Tick}
-use Rattle.tree_commit.specs.Frames.{DrawnFrame, frame_at}
+use Rattle.run_rules.specs.declared.compositor_step.CompositorStep.{CompositorStep}
+use Rattle.run_rules.specs.declared.compositor_step.CompositorStep.TheVariants.{Pull, Activate, Tick}
+use Rattle.run_rules.specs.Frames.{DrawnFrame, frame_at}
 use Rattle.run_laws.specs.Shown.{CommitNumbersNeverFall}
-use Rattle.tree_commit.specs.Scripts.{ScriptLists, never_fall_from, are_at_most}
+use Rattle.run_rules.specs.Scripts.{ScriptLists, never_fall_from, are_at_most}
 use Rattle.tree_commit.specs.Trees.{Committed}
-use Rattle.tree_commit.specs.Runs.{Lanes, CompositorLane, beginning, after_letter, after, after_activation, after_tick, compositor_step, compositor_makes, compositor_takes, newest_commit, report_of, closing_report}
+use Rattle.run_rules.specs.Runs.{Lanes, CompositorLane, beginning, after_letter, after, after_activation, after_tick, compositor_step, compositor_makes, compositor_takes, newest_commit, report_of, closing_report}
 
 -- ---- numbers in order
-
-pub both_hold : (a b : Bool) → (a && b) ≡ true → (a ≡ true) × (b ≡ true)
-both_hold true b h = (refl, h)
-both_hold false b h = absurd (false≢true h)
 
 -- one more number behind, which is none below the others
 never_fall_from-append : (least n : ℕ) (ns : List ℕ) → never_fall_from least ns ≡ true → are_at_most n ns ≡ true → least ≤ n → never_fall_from least (ns ++ n ∷ []) ≡ true
 never_fall_from-append least n [] rising below first = both_true (le-leb least n first) refl
 never_fall_from-append least n (m ∷ ns) rising below first =
-    let rise = both_hold (nat_le least m) (never_fall_from m ns) rising in
-    let bound = both_hold (nat_le m n) (are_at_most n ns) below in
+    let rise = and_parts (nat_le least m) (never_fall_from m ns) rising in
+    let bound = and_parts (nat_le m n) (are_at_most n ns) below in
     both_true rise.0 (never_fall_from-append m n ns rise.1 bound.1 (leb-true m n bound.0))
 
 are_at_most-append : (n : ℕ) (ns : List ℕ) → are_at_most n ns ≡ true → are_at_most n (ns ++ n ∷ []) ≡ true
 are_at_most-append n [] below = both_true (le-leb n n (omega arith)) refl
 are_at_most-append n (m ∷ ns) below =
-    let bound = both_hold (nat_le m n) (are_at_most n ns) below in
+    let bound = and_parts (nat_le m n) (are_at_most n ns) below in
     both_true bound.0 (are_at_most-append n ns bound.1)
 
 are_at_most-raised : (n larger : ℕ) (ns : List ℕ) → n ≤ larger → are_at_most n ns ≡ true → are_at_most larger ns ≡ true
 are_at_most-raised n larger [] more below = refl
 are_at_most-raised n larger (m ∷ ns) more below =
-    let bound = both_hold (nat_le m n) (are_at_most n ns) below in
+    let bound = and_parts (nat_le m n) (are_at_most n ns) below in
     both_true (le-leb m larger (omega (arith, leb-true m n bound.0))) (are_at_most-raised n larger ns more bound.1)
 
 -- ---- what stays along a run
@@ -55,7 +51,7 @@ record AreOrdered (lane : CompositorLane) : Type 0 where
 
 pull_keeps : (newest : Committed) (lane : CompositorLane) → AreOrdered lane → (taken : Bool) → (is_none lane.pending && nat_lt lane.pulled newest.number) ≡ taken → AreOrdered (cond taken (record lane { pulled = newest.number; pending = Some newest }) lane)
 pull_keeps newest lane h true e =
-    let both = both_hold (is_none lane.pending) (nat_lt lane.pulled newest.number) e in
+    let both = and_parts (is_none lane.pending) (nat_lt lane.pulled newest.number) e in
     record { rising = h.rising; shown = h.shown; active = omega (arith, ltb-true lane.pulled newest.number both.1, h.active); pending = refl }
 pull_keeps newest lane h false e = h
 

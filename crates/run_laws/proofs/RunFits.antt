@@ -4,22 +4,21 @@ use Rattle.std.specs.Prelude.{is_none, IfSome}
 use Rattle.std.proofs.lemmas.Bool.{and_parts, ltb-true}
 use Rattle.anim_names.specs.declared.lane.Lane.{Lane}
 use Rattle.anim_names.specs.declared.lane.Lane.TheVariants.{Main, Compositor}
-use Rattle.anim_names.specs.Lists.{BeginsWith}
-use Rattle.tree_commit.specs.declared.runs.mark.Mark.{Mark}
-use Rattle.tree_commit.specs.declared.runs.compositor_step.CompositorStep.{CompositorStep}
-use Rattle.tree_commit.specs.declared.runs.compositor_step.CompositorStep.TheVariants.{Pull, Activate, Tick}
+use Rattle.anim_names.specs.Lists.{BeginsWith, IsAmong}
+use Rattle.run_rules.specs.declared.mark.Mark.{Mark}
+use Rattle.run_rules.specs.declared.compositor_step.CompositorStep.{CompositorStep}
+use Rattle.run_rules.specs.declared.compositor_step.CompositorStep.TheVariants.{Pull, Activate, Tick}
 use Rattle.tree_commit.specs.Trees.{Committed, empty_commit, groups_of}
-use Rattle.tree_commit.specs.Marks.{finish_marks, marks_of_tick}
+use Rattle.run_rules.specs.Marks.{finish_marks, marks_of_tick}
 use Rattle.tree_commit.specs.Edits.{Book, new_book}
-use Rattle.tree_commit.specs.Scripts.{ScriptLists, StepOfMain, EditStep, CommitStep, DrainStep, IsWellFormed}
-use Rattle.tree_commit.specs.Runs.{Lanes, MainLane, CompositorLane, beginning, after_letter, after, main_step, main_takes, after_drain, newest_commit, with_pending, after_pull, after_activation, after_tick, compositor_takes, compositor_step}
-use Rattle.tree_commit.specs.Follows.{IsAmong}
+use Rattle.run_rules.specs.Scripts.{ScriptLists, StepOfMain, EditStep, CommitStep, DrainStep, IsWellFormed}
+use Rattle.run_rules.specs.Runs.{Lanes, MainLane, CompositorLane, beginning, after_letter, after, main_step, main_takes, after_drain, newest_commit, with_pending, after_pull, after_activation, after_tick, compositor_takes, compositor_step}
 use Rattle.tree_commit.proofs.Among.{among-append_left}
 use Rattle.run_laws.proofs.Births.{Birth, births, AreOfOneScript, births_of_script}
 use Rattle.run_laws.proofs.Lines.{FitsBirths, Precedes, AreOrdered, empty_fits, empty_precedes, ordered-precedes}
 use Rattle.run_laws.proofs.MainLemmas.{MainFits}
 use Rattle.run_laws.proofs.MainSteps.{book_after_next, main_fits_after}
-use Rattle.run_laws.proofs.MarksFit.{MarksFit, no_marks_fit}
+use Rattle.run_laws.proofs.MarksFit.{MarksFitBirths, no_marks_fit}
 use Rattle.run_laws.proofs.FinishFits.{finish_fits}
 use Rattle.run_laws.proofs.ActivationFits.{abort_fits}
 use Rattle.run_laws.proofs.StartFits.{starts_fit}
@@ -35,7 +34,7 @@ pub record CompositorFits (born : List Birth) (commits : List Committed) (lane :
   pub active : IsAmong lane.active (empty_commit ∷ commits)
   pub behind : lane.active.number ≤ lane.pulled
   pub pending : IfSome lane.pending (IsPendingOf commits lane)
-  pub marks : MarksFit born lane.active lane.marks
+  pub marks : MarksFitBirths born lane.active lane.marks
 
 pub record RunFits (script : ScriptLists) (lanes : Lanes) : Type 0 where
   pub book : Book
@@ -103,7 +102,7 @@ tick_fits born book main time lane script m h =
       active = h.active;
       behind = h.behind;
       pending = h.pending;
-      marks = subst (λ marks. MarksFit born lane.active marks) (append_assoc lane.marks (finish_marks lane.active.tree lane.marks time) _) started;
+      marks = subst (λ marks. MarksFitBirths born lane.active marks) (append_assoc lane.marks (finish_marks lane.active.tree lane.marks time) _) started;
     }
 
 left_fits : (born : List Birth) (commits : List Committed) (lane : CompositorLane) (left : List CompositorStep) → CompositorFits born commits lane → CompositorFits born commits (record lane { left = left })

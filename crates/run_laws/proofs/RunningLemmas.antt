@@ -1,21 +1,24 @@
 -- A model that is started and not ended is in the active commit.
 use Rattle.std.proofs.Common.{◌≡◌, ℕ, ◌==◌, Bool, true, false, not, ◌&&◌, ◌||◌, cond, Option, Some, None, List, [], ◌∷◌, ◌++◌, map, filter, refl, sym, subst, ◌∙◌, ◌⊎◌, inl, inr}
 use Rattle.std.specs.List.{list_any}
-use Rattle.std.proofs.lemmas.Bool.{false≢true, eqb-true, not-true, or_cases}
+use Rattle.std.proofs.lemmas.Bool.{false≢true, eqb-true, or_cases, or_parts}
 use Rattle.std.proofs.lemmas.List.Folds.{list_any-append}
 use Rattle.anim_names.specs.declared.lane.Lane.{Lane}
 use Rattle.anim_names.specs.declared.lane.Lane.TheVariants.{Main, Compositor}
-use Rattle.tree_commit.specs.declared.runs.mark.Mark.{Mark}
-use Rattle.tree_commit.specs.declared.runs.mark.Mark.TheVariants.{Finished, Aborted}
-use Rattle.tree_commit.specs.declared.runs.compositor_step.CompositorStep.{CompositorStep}
-use Rattle.tree_commit.specs.declared.runs.compositor_step.CompositorStep.TheVariants.{Pull, Activate, Tick}
+use Rattle.run_rules.specs.declared.mark.Mark.{Mark}
+use Rattle.run_rules.specs.declared.mark.Mark.TheVariants.{OfModel}
+use Rattle.run_rules.specs.declared.mark.ModelMark.TheVariants.{Finished, Aborted}
+use Rattle.run_rules.specs.declared.compositor_step.CompositorStep.{CompositorStep}
 use Rattle.keyframe_model.specs.Models.{Spec}
 use Rattle.tree_commit.specs.Trees.{TreeLists, Committed, members_of, groups_of, has_element, has_model}
-use Rattle.tree_commit.specs.Marks.{starts, ends, is_started, is_ended, is_running, is_ready, is_lost, finishing_models, lost_models, start_mark, group_marks, finish_marks, start_marks, marks_of_tick, marks_of_activation}
+use Rattle.run_rules.specs.Marks.{starts, ends, is_started, is_ended, is_unfinished, is_ready, is_lost, finishing_models, lost_models, start_mark, group_marks, finish_marks, start_marks, marks_of_tick, marks_of_activation, is_start}
 use Rattle.run_laws.specs.ActiveCommit.{RunningIsActive}
-use Rattle.tree_commit.specs.Scripts.{ScriptLists}
-use Rattle.tree_commit.specs.Runs.{Lanes, CompositorLane, beginning, after_letter, after, after_activation, compositor_step, compositor_makes, compositor_takes}
-use Rattle.run_laws.proofs.NumberLemmas.{both_hold}
+use Rattle.run_laws.proofs.CompositorSteps.{by_step}
+use Rattle.run_laws.proofs.FinishFits.{running-parts, running-whole}
+use Rattle.run_rules.specs.Scripts.{ScriptLists}
+use Rattle.run_rules.specs.Runs.{Lanes, CompositorLane, beginning, after_letter, after, after_activation, compositor_step, compositor_makes, compositor_takes}
+use Rattle.run_rules.specs.declared.mark.ModelMark.{ModelMark}
+use Rattle.run_rules.proofs.StepLemmas.{quiet-keeps}
 
 -- ---- tests of lists
 
@@ -29,13 +32,10 @@ any-map-filter {X} {Y} p f q test same (x ∷ xs) h = go (any-map-filter p f q t
     go rest true h false e = rest (rw e at h)
     go rest false h false e = rest h
 
-finish-starts : (id tick : ℕ) (models : List Spec) → is_started (map (λ model. Finished model.id tick) models) id ≡ false
-finish-starts id tick [] = refl
-finish-starts id tick (model ∷ models) = finish-starts id tick models
-
-abort-starts : (id number : ℕ) (models : List Spec) → is_started (map (λ model. Aborted model.id number) models) id ≡ false
-abort-starts id number [] = refl
-abort-starts id number (model ∷ models) = abort-starts id number models
+-- where the same becomes of all models, and it is no start, none starts
+none-started : (id : ℕ) (what : ModelMark) → is_start what ≡ false → (models : List Spec) → is_started (map (λ model. OfModel model.id what) models) id ≡ false
+none-started id what no_start [] = refl
+none-started id what no_start (model ∷ models) = rw no_start (none-started id what no_start models)
 
 -- ---- whose starts are among new marks
 
@@ -72,7 +72,7 @@ groups_start active pending marks tick (group ∷ behind) =
 
 finish_start : (active : TreeLists) (marks : List Mark) (tick : ℕ) → StartsHere active (finish_marks active marks tick)
 unfolding StartsHere finish_marks
-finish_start active marks tick id h = absurd (false≢true (sym (finish-starts id tick (finishing_models active marks tick)) ∙ h))
+finish_start active marks tick id h = absurd (false≢true (sym (none-started id (Finished tick) refl (finishing_models active marks tick)) ∙ h))
 
 tick_start : (active : TreeLists) (pending : Option Committed) (marks : List Mark) (tick : ℕ) → StartsHere active (marks_of_tick active pending marks tick)
 unfolding marks_of_tick
@@ -84,31 +84,21 @@ tick_start active pending marks tick =
 
 -- each model that the marks leave running is in the tree
 RunsHere : TreeLists → List Mark → Type 0
-RunsHere tree marks = (id : ℕ) → is_running marks id ≡ true → has_model tree id ≡ true
-
-running-parts : (started ended : Bool) → (started && not ended) ≡ true → (started ≡ true) × (ended ≡ false)
-running-parts started ended h = let both = both_hold started (not ended) h in (both.0, not-true ended both.1)
-
-running-whole : (started ended : Bool) → started ≡ true → ended ≡ false → (started && not ended) ≡ true
-running-whole started ended s e = rw (s, e) refl
-
-or-false : (a b : Bool) → (a || b) ≡ false → (a ≡ false) × (b ≡ false)
-or-false true b h = absurd (false≢true (sym h))
-or-false false b h = (refl, h)
+RunsHere tree marks = (id : ℕ) → is_unfinished marks id ≡ true → has_model tree id ≡ true
 
 runs_on : (tree : TreeLists) (marks new : List Mark) → RunsHere tree marks → StartsHere tree new → RunsHere tree (marks ++ new)
 unfolding RunsHere StartsHere
 runs_on tree marks new before starting id h = go (or_cases _ _ (rw list_any-append at parts.0))
   where
     parts : (is_started (marks ++ new) id ≡ true) × (is_ended (marks ++ new) id ≡ false)
-    parts = running-parts (is_started (marks ++ new) id) (is_ended (marks ++ new) id) h
+    parts = running-parts (marks ++ new) id h
 
     go : (list_any (starts id) marks ≡ true) ⊎ (list_any (starts id) new ≡ true) → has_model tree id ≡ true
-    go (inl l) = before id (running-whole _ _ l (or-false _ _ (rw list_any-append at parts.1)).0)
+    go (inl l) = before id (running-whole marks id l (or_parts _ _ (rw list_any-append at parts.1)).0)
     go (inr r) = starting id r
 
 -- a model of the old tree that is not ended and not in the new tree is among the lost
-lost-ends : (new : TreeLists) (marks : List Mark) (number id : ℕ) → has_model new id ≡ false → is_ended marks id ≡ false → (models : List Spec) → list_any (λ model. id == model.id) models ≡ true → list_any (ends id) (map (λ model. Aborted model.id number) (filter (is_lost new marks) models)) ≡ true
+lost-ends : (new : TreeLists) (marks : List Mark) (number id : ℕ) → has_model new id ≡ false → is_ended marks id ≡ false → (models : List Spec) → list_any (λ model. id == model.id) models ≡ true → list_any (ends id) (map (λ model. OfModel model.id (Aborted number)) (filter (is_lost new marks) models)) ≡ true
 lost-ends new marks number id gone unended [] h = h
 lost-ends new marks number id gone unended (model ∷ models) h = go (lost-ends new marks number id gone unended models) (id == model.id) refl h (is_lost new marks model) refl
   where
@@ -120,7 +110,7 @@ lost-ends new marks number id gone unended (model ∷ models) h = go (lost-ends 
         let P : ℕ → Type 0 = λ n. (not (is_ended marks n) && (not (has_model new n) || (is_started marks n && not (has_element new model.element)))) ≡ true in
         subst P (eqb-true id model.id same) (rw (unended, gone) refl)
 
-    go : (list_any (λ model. id == model.id) models ≡ true → list_any (ends id) (map (λ model. Aborted model.id number) lost) ≡ true) → (this : Bool) → id == model.id ≡ this → (this || list_any (λ model. id == model.id) models) ≡ true → (kept : Bool) → is_lost new marks model ≡ kept → list_any (ends id) (map (λ model. Aborted model.id number) (cond kept (model ∷ lost) lost)) ≡ true
+    go : (list_any (λ model. id == model.id) models ≡ true → list_any (ends id) (map (λ model. OfModel model.id (Aborted number)) lost) ≡ true) → (this : Bool) → id == model.id ≡ this → (this || list_any (λ model. id == model.id) models) ≡ true → (kept : Bool) → is_lost new marks model ≡ kept → list_any (ends id) (map (λ model. OfModel model.id (Aborted number)) (cond kept (model ∷ lost) lost)) ≡ true
     go rest true same h true e = rw same refl
     go rest true same h false e = absurd (false≢true (sym e ∙ is_one same))
     go rest false other h true e = rw other (rest h)
@@ -131,17 +121,17 @@ unfolding RunsHere marks_of_activation
 activation_runs active new marks before id h = go (has_model new.tree id) refl
   where
     lost : List Mark
-    lost = map (λ model. Aborted model.id new.number) (filter (is_lost new.tree marks) active.models)
+    lost = map (λ model. OfModel model.id (Aborted new.number)) (filter (is_lost new.tree marks) active.models)
 
     parts : (is_started (marks ++ lost) id ≡ true) × (is_ended (marks ++ lost) id ≡ false)
-    parts = running-parts (is_started (marks ++ lost) id) (is_ended (marks ++ lost) id) h
+    parts = running-parts (marks ++ lost) id h
 
     ended : (list_any (ends id) marks ≡ false) × (list_any (ends id) lost ≡ false)
-    ended = or-false _ _ (rw list_any-append at parts.1)
+    ended = or_parts _ _ (rw list_any-append at parts.1)
 
     there : (list_any (starts id) marks ≡ true) ⊎ (list_any (starts id) lost ≡ true) → has_model active id ≡ true
-    there (inl l) = before id (running-whole (is_started marks id) (is_ended marks id) l ended.0)
-    there (inr r) = absurd (false≢true (sym (abort-starts id new.number (lost_models active new.tree marks)) ∙ r))
+    there (inl l) = before id (running-whole marks id l ended.0)
+    there (inr r) = absurd (false≢true (sym (none-started id (Aborted new.number) refl (lost_models active new.tree marks)) ∙ r))
 
     go : (has : Bool) → has_model new.tree id ≡ has → has_model new.tree id ≡ true
     go true e = e
@@ -149,19 +139,16 @@ activation_runs active new marks before id h = go (has_model new.tree id) refl
 
 -- ---- each step keeps it
 
-pull_runs : (lane pulled : CompositorLane) (taken : Bool) → pulled.marks ≡ lane.marks → pulled.active ≡ lane.active → RunsHere lane.active.tree lane.marks → RunsHere (cond taken pulled lane).active.tree (cond taken pulled lane).marks
-pull_runs lane pulled true marks active h = rw (marks, active) h
-pull_runs lane pulled false marks active h = h
-
 activate_runs : (pending : Option Committed) (lane : CompositorLane) → RunsHere lane.active.tree lane.marks → RunsHere (after_activation pending lane).active.tree (after_activation pending lane).marks
 activate_runs None lane h = h
 activate_runs (Some commit) lane h = activation_runs lane.active.tree commit lane.marks h
 
 makes_runs : (commits : List Committed) (step : CompositorStep) (lane : CompositorLane) → RunsHere lane.active.tree lane.marks → RunsHere (compositor_makes commits step lane).active.tree (compositor_makes commits step lane).marks
-makes_runs commits Pull lane h = pull_runs lane _ _ refl refl h
-makes_runs commits Activate lane h = activate_runs lane.pending lane h
-makes_runs commits (Tick time) lane h =
-    runs_on lane.active.tree lane.marks _ h (tick_start lane.active.tree lane.pending lane.marks time)
+makes_runs commits step lane h =
+    by_step (λ step. RunsHere (compositor_makes commits step lane).active.tree (compositor_makes commits step lane).marks)
+    (λ step quiet. let kept = quiet-keeps commits step lane quiet in rw (kept.active, kept.marks) h)
+    (activate_runs lane.pending lane h)
+    (λ time. runs_on lane.active.tree lane.marks _ h (tick_start lane.active.tree lane.pending lane.marks time)) step
 
 takes_runs : (commits : List Committed) (left : List CompositorStep) (lane : CompositorLane) → RunsHere lane.active.tree lane.marks → RunsHere (compositor_takes commits left lane).active.tree (compositor_takes commits left lane).marks
 takes_runs commits [] lane h = h

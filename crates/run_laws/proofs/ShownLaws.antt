@@ -1,20 +1,20 @@
 -- Which commits were committed, pulled, activated and shown along a word.
 use Rattle.std.proofs.Common.{◌≡◌, ℕ, ◌<◌, Bool, true, false, ◌&&◌, cond, nat_lt, Option, Some, None, List, [], ◌∷◌, ◌++◌, length, refl, sym, ap, ◌∙◌, subst, ◌⊎◌, inl, inr, append_assoc, arith}
 use Rattle.std.specs.Prelude.{IsTrue, IfSome, IsSomeAnd, is_none}
-use Rattle.std.proofs.lemmas.Bool.{false≢true, and_parts, ltb-true}
+use Rattle.std.proofs.lemmas.Bool.{false≢true, and_parts, ltb-true, eqb-true}
 use Rattle.std.proofs.lemmas.List.{append-nil}
 use Rattle.anim_names.specs.declared.lane.Lane.{Lane}
 use Rattle.anim_names.specs.declared.lane.Lane.TheVariants.{Main, Compositor}
-use Rattle.anim_names.specs.Lists.{BeginsWith}
-use Rattle.tree_commit.specs.declared.runs.mark.Mark.{Mark}
-use Rattle.tree_commit.specs.declared.runs.compositor_step.CompositorStep.{CompositorStep}
-use Rattle.tree_commit.specs.declared.runs.compositor_step.CompositorStep.TheVariants.{Pull, Activate, Tick}
-use Rattle.tree_commit.specs.Trees.{Committed, empty_commit, next_commit, has_model}
-use Rattle.tree_commit.specs.Marks.{model_of}
-use Rattle.tree_commit.specs.Frames.{DrawnFrame, frame_at}
-use Rattle.tree_commit.specs.Scripts.{ScriptLists, StepOfMain, EditStep, CommitStep, DrainStep}
-use Rattle.tree_commit.specs.Runs.{Lanes, MainLane, CompositorLane, beginning, after_letter, after, main_takes, main_step, after_drain, newest_commit, with_pending, after_activation, compositor_takes, compositor_step}
-use Rattle.tree_commit.specs.Follows.{IsAmong}
+use Rattle.anim_names.specs.Lists.{BeginsWith, IsAmong}
+use Rattle.run_rules.specs.declared.mark.Mark.{Mark}
+use Rattle.run_rules.specs.declared.mark.Mark.TheVariants.{OfModel}
+use Rattle.run_rules.specs.declared.compositor_step.CompositorStep.{CompositorStep}
+use Rattle.run_rules.specs.declared.compositor_step.CompositorStep.TheVariants.{Pull, Activate, Tick}
+use Rattle.tree_commit.specs.Trees.{Committed, empty_commit, next_commit, has_model, TreeLists}
+use Rattle.run_rules.specs.Marks.{is_about, of_model}
+use Rattle.run_rules.specs.Frames.{DrawnFrame, frame_at}
+use Rattle.run_rules.specs.Scripts.{ScriptLists, StepOfMain, EditStep, CommitStep, DrainStep}
+use Rattle.run_rules.specs.Runs.{Lanes, MainLane, CompositorLane, beginning, after_letter, after, main_takes, main_step, after_drain, newest_commit, with_pending, after_activation, compositor_takes, compositor_step}
 use Rattle.run_laws.specs.Steps.{new_marks}
 use Rattle.run_laws.specs.Shown.{lanes_at, WasCommitted, WasPulled, WasActivated, ShowsActivated, AllShowActivated, IsSkipped, SkippedIsSilent}
 use Rattle.tree_commit.proofs.Among.{among-append_left, among-append_cases}
@@ -140,7 +140,7 @@ main_has_been script word h = record {
 
 -- ---- a step of the compositor
 
-none_of : (pending : Option Committed) → is_none pending ≡ true → pending ≡ None
+pub none_of : (pending : Option Committed) → is_none pending ≡ true → pending ≡ None
 none_of None h = refl
 none_of (Some commit) h = absurd (false≢true h)
 
@@ -274,7 +274,7 @@ frames_silent script word number some skipped frame a same = go shown.shown
 record WasActive (script : ScriptLists) (word : List Lane) (mark : Mark) : Type 0 where
   front : List Lane
   begins : BeginsWith word front
-  there : has_model (lanes_at script front).compositor.active.tree (model_of mark) ≡ true
+  there : of_model (λ model what. has_model (lanes_at script front).compositor.active.tree model) mark ≡ true
 
 was_active : (script : ScriptLists) (word : List Lane) → (mark : Mark) → IsAmong mark (lanes_at script word).compositor.marks → WasActive script word mark
 unfolding after
@@ -300,7 +300,11 @@ commit_stays script front word commit (more, e) a =
     let there = subst (λ commits. IsAmong commit commits) (sym grown.1) (among-append_left commit (lanes_at script front).main.commits grown.0 a) in
     subst (λ lanes. IsAmong commit lanes.main.commits) (sym (ap (after (beginning script)) e ∙ after-append (beginning script) front more)) there
 
-events_silent : (script : ScriptLists) (word : List Lane) (id : ℕ) → ((commit : Committed) → IsAmong commit (lanes_at script word).main.commits → IsTrue (has_model commit.tree id) → IsSkipped script word commit.number) → (mark : Mark) → IsAmong mark (lanes_at script word).compositor.marks → model_of mark ≡ id → ⊥
+-- the model that a mark is about is in a tree where that of the mark is
+there_about : (tree : TreeLists) (id : ℕ) (mark : Mark) → is_about id mark ≡ true → of_model (λ model what. has_model tree model) mark ≡ true → has_model tree id ≡ true
+there_about tree id (OfModel model what) same there = subst (λ i. has_model tree i ≡ true) (sym (eqb-true id model same)) there
+
+events_silent : (script : ScriptLists) (word : List Lane) (id : ℕ) → ((commit : Committed) → IsAmong commit (lanes_at script word).main.commits → IsTrue (has_model commit.tree id) → IsSkipped script word commit.number) → (mark : Mark) → IsAmong mark (lanes_at script word).compositor.marks → IsTrue (is_about id mark) → ⊥
 events_silent script word id skipped mark a same = go (have_been script found.front).compositor.active
   where
     found : WasActive script word mark
@@ -310,7 +314,7 @@ events_silent script word id skipped mark a same = go (have_been script found.fr
     active = (lanes_at script found.front).compositor.active
 
     there : has_model active.tree id ≡ true
-    there = subst (λ i. has_model active.tree i ≡ true) same found.there
+    there = there_about active.tree id mark same found.there
 
     go : (active ≡ empty_commit) ⊎ WasActivated script active found.front → ⊥
     go (inl e) = false≢true (subst (λ c. has_model c.tree id ≡ true) e there)

@@ -6,22 +6,26 @@ use Rattle.std.proofs.lemmas.Bool.{false≢true, and_parts, and_from, or_cases, 
 use Rattle.std.proofs.lemmas.List.{append-nil}
 use Rattle.std.proofs.lemmas.List.Folds.{list_any-append}
 use Rattle.anim_names.specs.declared.property.Property.{Property}
-use Rattle.anim_names.specs.declared.property.Property.TheVariants.{Opacity, Transform}
 use Rattle.anim_timeline.specs.Timelines.{timeline_time}
-use Rattle.keyframe_model.specs.Models.{Spec, property_of, same_property}
-use Rattle.tree_commit.specs.declared.runs.mark.Mark.{Mark}
-use Rattle.tree_commit.specs.declared.runs.mark.Mark.TheVariants.{Started, Finished, Aborted}
+use Rattle.keyframe_model.specs.Models.{Spec, property_of}
+use Rattle.run_rules.specs.declared.mark.Mark.{Mark}
+use Rattle.run_rules.specs.declared.mark.Mark.TheVariants.{OfModel}
+use Rattle.run_rules.specs.declared.mark.ModelMark.TheVariants.{Started, Finished, Aborted}
 use Rattle.tree_commit.specs.Trees.{TreeLists, Committed, has_model, has_group, has_element, members_of, time_of, origin_of}
-use Rattle.tree_commit.specs.Marks.{model_of, starts, ends, starts_in, starts_on, started_group, is_started, is_ended, is_running, is_group_running, blocks, pending_allows, may_start, is_ready, recorded_start, start_mark, group_marks, start_marks}
-use Rattle.tree_commit.specs.Follows.{IsAmong}
-use Rattle.run_laws.specs.Ends.{finishes, is_finished}
+use Rattle.run_rules.specs.Marks.{model_of, starts, ends, starts_in, starts_on, started_group, is_started, is_ended, is_unfinished, is_group_unfinished, blocks, pending_allows, may_start, is_ready, recorded_start, start_mark, group_marks, start_marks, began, group_begun, is_start, is_end}
+use Rattle.run_rules.specs.declared.mark.ModelMark.{ModelMark}
+use Rattle.run_rules.proofs.MarkLemmas.{says-model}
+use Rattle.anim_names.specs.Lists.{IsAmong}
+use Rattle.anim_names.proofs.PropertyLemmas.{is_property-one}
+use Rattle.run_laws.specs.Ends.{finishes, is_finished, is_finish}
 use Rattle.run_laws.specs.Groups.{AreAlike}
 use Rattle.tree_commit.proofs.Among.{among-append_cases, among-map, among-map_cases, among-filter, among-filter_from, any-among, any-cases, any-none, all-among}
 use Rattle.run_laws.proofs.Births.{Birth, birth, AreOfOneScript}
 use Rattle.run_laws.proofs.Lines.{FitsBirths}
-use Rattle.run_laws.proofs.MarkFacts.{any-more, any-fewer, any-same, apart-filter, AreInOrder, order-append, order-apart, starts-about, blocks-before, blocks-mark, finished-mark, finished-from, NoStartIn, still-idle}
-use Rattle.run_laws.proofs.MarksFit.{IsAbout, IsOfBirth, MarksFit, about-starts_in, of_active}
+use Rattle.run_laws.proofs.MarkFacts.{any-more, any-fewer, any-same, apart-filter, AreInOrder, order-append, order-apart, blocks-before, blocks-mark, finished-mark, finished-from, NoStartIn, still-idle}
+use Rattle.run_laws.proofs.MarksFit.{IsAbout, IsOfBirth, MarksFitBirths, about-starts_in, of_active}
 use Rattle.run_laws.proofs.FinishFits.{running-parts, running-whole}
+use Rattle.run_laws.proofs.StartLemmas.{if_began-fails, says-weaker}
 
 -- ---- what a ready group is
 
@@ -77,26 +81,23 @@ none_of_others active tick group other apart mark a h = apart (own-group active 
 
 -- ---- tests of marks
 
+finish-ends : (what : ModelMark) → is_finish what ≡ true → is_end what ≡ true
+finish-ends (Started begun) h = absurd (false≢true h)
+finish-ends (Finished at) h = refl
+finish-ends (Aborted commit) h = absurd (false≢true h)
+
 finish-is_end : (marks : List Mark) (id : ℕ) → is_finished marks id ≡ true → is_ended marks id ≡ true
 finish-is_end marks id h =
     let found = any-cases (finishes id) marks h in
-    any-among (ends id) found.0 marks found.1 (go found.0 found.2)
-  where
-    go : (mark : Mark) → finishes id mark ≡ true → ends id mark ≡ true
-    go (Started model group element property at start) h = absurd (false≢true h)
-    go (Finished model at) h = h
-    go (Aborted model commit) h = absurd (false≢true h)
+    any-among (ends id) found.0 marks found.1 (says-weaker is_finish is_end finish-ends id found.0 found.2)
 
-same_property-true : (p q : Property) → same_property p q ≡ true → p ≡ q
-same_property-true Opacity Opacity h = refl
-same_property-true Opacity Transform h = absurd (false≢true h)
-same_property-true Transform Opacity h = absurd (false≢true h)
-same_property-true Transform Transform h = refl
+group-begun : (group : ℕ) (what : ModelMark) → began (λ begun. group == begun.group) what ≡ true → group_begun what ≡ Some group
+group-begun group (Started begun) h = ap Some (sym (eqb-true group begun.group h))
+group-begun group (Finished at) h = absurd (false≢true h)
+group-begun group (Aborted commit) h = absurd (false≢true h)
 
 started_group-of : (group : ℕ) (mark : Mark) → starts_in group mark ≡ true → started_group mark ≡ Some group
-started_group-of group (Started model other element property at start) h = ap Some (sym (eqb-true group other h))
-started_group-of group (Finished model at) h = absurd (false≢true h)
-started_group-of group (Aborted model commit) h = absurd (false≢true h)
+started_group-of group (OfModel model what) h = group-begun group what h
 
 pub among-cons_option : {B : Type 0} (y : B) (o : Option B) (ys : List B) → IsAmong y ys → IsAmong y (cons_option o ys)
 among-cons_option y None ys h = h
@@ -109,7 +110,7 @@ among-filter_map f x y (z ∷ xs) (inr h) e = among-cons_option y (f z) (filter_
 
 -- ---- the start of one group
 
-start_fits : (born : List Birth) (active : Committed) (pending : Option Committed) (marks : List Mark) (tick group : ℕ) → AreOfOneScript born → FitsBirths born active → MarksFit born active marks → IsReadyGroup active.tree pending marks group → MarksFit born active (marks ++ start_list active.tree tick group)
+start_fits : (born : List Birth) (active : Committed) (pending : Option Committed) (marks : List Mark) (tick group : ℕ) → AreOfOneScript born → FitsBirths born active → MarksFitBirths born active marks → IsReadyGroup active.tree pending marks group → MarksFitBirths born active (marks ++ start_list active.tree tick group)
 start_fits born active pending marks tick group script fits h ready = record {
   of_births = λ mark a. of_births mark (among-append_cases mark marks new a);
   order = order-append [] marks new h.order in_order;
@@ -132,13 +133,13 @@ start_fits born active pending marks tick group script fits h ready = record {
     of_births mark (inr a) =
         let found = start-mark active.tree tick group mark a in
         let when = fits.born_before found.0 found.1 in
-        record { model = found.0; before = when.0; among = when.1; under = when.2; about = subst (λ m. IsAbout found.0 m) (sym found.3) (refl, refl, refl, refl) }
+        record { model = found.0; before = when.0; among = when.1; under = when.2; about = subst (λ m. IsAbout found.0 m) (sym found.3) (refl, (refl, refl, refl)) }
 
     not_started : (model : Spec) → IsAmong model active.tree.models → group ≡ model.group → is_started marks model.id ≡ true → ⊥
     not_started model there same started =
         let found = any-cases (starts model.id) marks started in
         let whose = h.of_births found.0 found.1 in
-        let own = of_active born active model found.0 script fits there whose (sym (starts-about model.id found.0 found.2)) in
+        let own = of_active born active model found.0 script fits there whose (sym (says-model is_start model.id found.0 found.2)) in
         none_before found.0 found.1 (subst (λ g. starts_in g found.0 ≡ true) (ap (λ m. m.group) own ∙ sym same) (about-starts_in whose.model found.0 model.id whose.about found.2))
 
     not_ended : (model : Spec) → IsAmong model active.tree.models → group ≡ model.group → is_ended marks model.id ≡ true → ⊥
@@ -151,7 +152,7 @@ start_fits born active pending marks tick group script fits h ready = record {
         let same = eqb-true group model.group parts.1 in
         and_from _ _ (not_from_false _ (false_from_ne_true _ (not_started model parts.0 same))) (not_from_false _ (false_from_ne_true _ (not_ended model parts.0 same))))
 
-    running : (id : ℕ) → is_running (marks ++ new) id ≡ true → has_model active.tree id ≡ true
+    running : (id : ℕ) → is_unfinished (marks ++ new) id ≡ true → has_model active.tree id ≡ true
     running id runs = go (or_cases _ _ (sym (list_any-append (starts id) marks new) ∙ (running-parts (marks ++ new) id runs).0))
       where
         go : (is_started marks id ≡ true) ⊎ (list_any (starts id) new ≡ true) → has_model active.tree id ≡ true
@@ -170,14 +171,12 @@ start_fits born active pending marks tick group script fits h ready = record {
 
     -- a start among the earlier marks is of another group
     apart_left : (one : Mark) (model : Spec) → IsAmong one marks → group ≡ model.group → AreAlike one (start_mark active.tree tick model)
-    apart_left (Started id g element property at start) model a same = λ equal. absurd (none_before (Started id g element property at start) a (eq-eqb group g (same ∙ sym equal)))
-    apart_left (Finished id at) model a same = tt
-    apart_left (Aborted id number) model a same = tt
+    apart_left (OfModel id what) model a same =
+        if_began-fails _ (λ begun. group == begun.group) (λ begun fails equal. absurd (fails (eq-eqb group begun.group (same ∙ sym equal)))) what (none_before (OfModel id what) a)
 
     apart_right : (model : Spec) (other : Mark) → IsAmong other marks → group ≡ model.group → AreAlike (start_mark active.tree tick model) other
-    apart_right model (Started id g element property at start) a same = λ equal. absurd (none_before (Started id g element property at start) a (eq-eqb group g (same ∙ equal)))
-    apart_right model (Finished id at) a same = tt
-    apart_right model (Aborted id number) a same = tt
+    apart_right model (OfModel id what) a same =
+        if_began-fails _ (λ begun. group == begun.group) (λ begun fails equal. absurd (fails (eq-eqb group begun.group (same ∙ equal)))) what (none_before (OfModel id what) a)
 
     both_new : (one other : Spec) → IsAmong one active.tree.models → IsAmong other active.tree.models → group ≡ one.group → group ≡ other.group → AreAlike (start_mark active.tree tick one) (start_mark active.tree tick other)
     both_new one other a b same equal =
@@ -214,7 +213,7 @@ start_fits born active pending marks tick group script fits h ready = record {
             let parts = and_parts (element == found.0.element) _ (subst (λ m. starts_on element property m ≡ true) found.3 on) in
             let may = ready.may_start found.0 found.4 in
             let unblocked = not-true _ (and_parts (has_element active.tree found.0.element && pending_allows pending found.0.group found.0.element) _ may).1 in
-            let here : blocks marks other found.0.element (property_of found.0) ≡ true = subst (λ e. blocks marks other e (property_of found.0) ≡ true) (eqb-true element found.0.element parts.0) (subst (λ p. blocks marks other element p ≡ true) (same_property-true property (property_of found.0) parts.1) old) in
+            let here : blocks marks other found.0.element (property_of found.0) ≡ true = subst (λ e. blocks marks other e (property_of found.0) ≡ true) (eqb-true element found.0.element parts.0) (subst (λ p. blocks marks other element p ≡ true) (is_property-one property (property_of found.0) parts.1) old) in
             let differs : not (found.0.group == other) ≡ true = not_from_false _ (ne_eqb found.0.group other (λ e. apart (sym e ∙ sym found.2))) in
             false≢true (sym unblocked ∙ any-among (λ g. not (found.0.group == g) && blocks marks g found.0.element (property_of found.0)) other (filter_map started_group marks) (among-filter_map started_group its other marks b (started_group-of other its t)) (and_from _ _ differs here))
 
@@ -228,13 +227,13 @@ start_fits born active pending marks tick group script fits h ready = record {
         h.blocker one other element property (blocks-before marks new one element property (none_of_others active.tree tick group one (eqb-false one group e)) x)
         (blocks-before marks new other element property (none_of_others active.tree tick group other (eqb-false other group f)) y)
 
-    finished : (g : ℕ) → (mark : Mark) × IsAmong mark (marks ++ new) × (starts_in g mark ≡ true) × (is_finished (marks ++ new) (model_of mark) ≡ true) → is_group_running (marks ++ new) g ≡ false
+    finished : (g : ℕ) → (mark : Mark) × IsAmong mark (marks ++ new) × (starts_in g mark ≡ true) × (is_finished (marks ++ new) (model_of mark) ≡ true) → is_group_unfinished (marks ++ new) g ≡ false
     finished g (mark, a, s, done) = go (among-append_cases mark marks new a)
       where
         old : is_finished marks (model_of mark) ≡ true
         old = sym (any-same (finishes (model_of mark)) marks new (none_finishes active.tree tick group (model_of mark))) ∙ done
 
-        go : IsAmong mark marks ⊎ IsAmong mark new → is_group_running (marks ++ new) g ≡ false
+        go : IsAmong mark marks ⊎ IsAmong mark new → is_group_unfinished (marks ++ new) g ≡ false
         go (inl early) = still-idle marks new g (none_of_others active.tree tick group g (λ e. none_before mark early (subst (λ k. starts_in k mark ≡ true) e s))) (h.finished g (finished-from marks g mark early s old))
         go (inr late) =
             let found = start-mark active.tree tick group mark late in
@@ -242,13 +241,13 @@ start_fits born active pending marks tick group script fits h ready = record {
 
 -- ---- all groups in turn
 
-pub starts_fit : (born : List Birth) (active : Committed) (pending : Option Committed) (tick : ℕ) (groups : List ℕ) (marks : List Mark) → AreOfOneScript born → FitsBirths born active → MarksFit born active marks → MarksFit born active (marks ++ start_marks active.tree pending marks tick groups)
+pub starts_fit : (born : List Birth) (active : Committed) (pending : Option Committed) (tick : ℕ) (groups : List ℕ) (marks : List Mark) → AreOfOneScript born → FitsBirths born active → MarksFitBirths born active marks → MarksFitBirths born active (marks ++ start_marks active.tree pending marks tick groups)
 unfolding start_marks
-starts_fit born active pending tick [] marks script fits h = subst (λ l. MarksFit born active l) (sym (append-nil marks)) h
+starts_fit born active pending tick [] marks script fits h = subst (λ l. MarksFitBirths born active l) (sym (append-nil marks)) h
 starts_fit born active pending tick (group ∷ behind) marks script fits h =
-    subst (λ l. MarksFit born active l) (append_assoc marks (group_marks active.tree pending marks tick group) (start_marks active.tree pending (marks ++ group_marks active.tree pending marks tick group) tick behind))
+    subst (λ l. MarksFitBirths born active l) (append_assoc marks (group_marks active.tree pending marks tick group) (start_marks active.tree pending (marks ++ group_marks active.tree pending marks tick group) tick behind))
     (starts_fit born active pending tick behind (marks ++ group_marks active.tree pending marks tick group) script fits (go (is_ready active.tree pending marks group) refl))
   where
-    go : (ready : Bool) → is_ready active.tree pending marks group ≡ ready → MarksFit born active (marks ++ cond ready (map (start_mark active.tree tick) (members_of active.tree group)) [])
+    go : (ready : Bool) → is_ready active.tree pending marks group ≡ ready → MarksFitBirths born active (marks ++ cond ready (map (start_mark active.tree tick) (members_of active.tree group)) [])
     go true e = start_fits born active pending marks tick group script fits h (ready-parts active.tree pending marks group e)
-    go false e = subst (λ l. MarksFit born active l) (sym (append-nil marks)) h
+    go false e = subst (λ l. MarksFitBirths born active l) (sym (append-nil marks)) h

@@ -4,50 +4,29 @@ use Rattle.std.proofs.Math.Seq.{drop-append_seam}
 use Rattle.std.proofs.lemmas.List.{append-nil}
 use Rattle.anim_names.specs.declared.lane.Lane.{Lane}
 use Rattle.anim_names.specs.declared.lane.Lane.TheVariants.{Main, Compositor}
-use Rattle.anim_names.specs.Lists.{BeginsWith}
+use Rattle.anim_names.specs.Lists.{BeginsWith, IsAmong}
 use Rattle.keyframe_model.specs.Models.{Spec}
-use Rattle.tree_commit.specs.declared.runs.mark.Mark.{Mark}
-use Rattle.tree_commit.specs.declared.runs.compositor_step.CompositorStep.{CompositorStep}
-use Rattle.tree_commit.specs.declared.runs.compositor_step.CompositorStep.TheVariants.{Pull, Activate, Tick}
+use Rattle.run_rules.specs.declared.mark.Mark.{Mark}
+use Rattle.run_rules.specs.declared.compositor_step.CompositorStep.{CompositorStep}
+use Rattle.run_rules.specs.declared.compositor_step.CompositorStep.TheVariants.{Tick}
 use Rattle.tree_commit.specs.Trees.{TreeLists, Committed, members_of}
-use Rattle.tree_commit.specs.Marks.{is_ready, group_marks, start_mark, start_marks, marks_of_tick, marks_of_activation}
-use Rattle.tree_commit.specs.Runs.{Lanes, CompositorLane, after_letter, after_activation, compositor_takes, compositor_step}
-use Rattle.tree_commit.specs.Follows.{IsAmong}
-use Rattle.run_laws.specs.Steps.{new_marks}
+use Rattle.run_rules.specs.Marks.{is_ready, group_marks, start_mark, start_marks, marks_of_tick, marks_of_activation}
+use Rattle.run_rules.specs.Runs.{Lanes, CompositorLane, after_letter, compositor_takes, compositor_step}
+use Rattle.run_laws.specs.Steps.{new_marks, marks_of_pending, marks_of_step}
 use Rattle.tree_commit.proofs.Among.{among-append_cases}
 use Rattle.run_laws.proofs.StartFits.{IsReadyGroup, ready-parts, start_list, start-mark}
+use Rattle.run_laws.proofs.CompositorSteps.{by_step, quiet-marks, next-marks}
 
 -- ---- a step
 
-activation_marks : Option Committed → CompositorLane → List Mark
-activation_marks None lane = []
-activation_marks (Some commit) lane = marks_of_activation lane.active.tree commit lane.marks
+next_marks : List CompositorStep → CompositorLane → List Mark
+next_marks [] lane = []
+next_marks (step ∷ left) lane = marks_of_step step lane
 
-step_marks : List CompositorStep → CompositorLane → List Mark
-step_marks [] lane = []
-step_marks (Pull ∷ left) lane = []
-step_marks (Activate ∷ left) lane = activation_marks lane.pending lane
-step_marks (Tick time ∷ left) lane = marks_of_tick lane.active.tree lane.pending lane.marks time
-
-pull-marks : (taken : Bool) (pulled lane : CompositorLane) → pulled.marks ≡ lane.marks → (cond taken pulled lane).marks ≡ lane.marks
-pull-marks true pulled lane same = same
-pull-marks false pulled lane same = refl
-
-activation-marks : (pending : Option Committed) (lane : CompositorLane) → (after_activation pending lane).marks ≡ lane.marks ++ activation_marks pending lane
-unfolding activation_marks
-activation-marks None lane = sym (append-nil lane.marks)
-activation-marks (Some commit) lane = refl
-
-takes-marks : (commits : List Committed) (left : List CompositorStep) (lane : CompositorLane) → (compositor_takes commits left lane).marks ≡ lane.marks ++ step_marks left lane
-unfolding step_marks activation_marks
+takes-marks : (commits : List Committed) (left : List CompositorStep) (lane : CompositorLane) → (compositor_takes commits left lane).marks ≡ lane.marks ++ next_marks left lane
+unfolding next_marks
 takes-marks commits [] lane = sym (append-nil lane.marks)
-takes-marks commits (Pull ∷ left) lane = pull-marks _ _ _ refl ∙ sym (append-nil lane.marks)
-takes-marks commits (Activate ∷ left) lane = go lane.pending
-  where
-    go : (pending : Option Committed) → (after_activation pending (record lane { left = left })).marks ≡ lane.marks ++ activation_marks pending lane
-    go None = sym (append-nil lane.marks)
-    go (Some commit) = refl
-takes-marks commits (Tick time ∷ left) lane = refl
+takes-marks commits (step ∷ left) lane = next-marks commits step left lane
 
 -- ---- what a new mark is
 
@@ -57,21 +36,23 @@ IsNewMark lanes mark =
     ((time : ℕ) × (left : List CompositorStep) × (lanes.compositor.left ≡ Tick time ∷ left) × IsAmong mark (marks_of_tick lanes.compositor.active.tree lanes.compositor.pending lanes.compositor.marks time))
     ⊎ ((commit : Committed) × (lanes.compositor.pending ≡ Some commit) × IsAmong mark (marks_of_activation lanes.compositor.active.tree commit lanes.compositor.marks))
 
-of_step : (lanes : Lanes) (left : List CompositorStep) (mark : Mark) → lanes.compositor.left ≡ left → IsAmong mark (step_marks left lanes.compositor) → IsNewMark lanes mark
-unfolding step_marks activation_marks
+of_step : (lanes : Lanes) (left : List CompositorStep) (mark : Mark) → lanes.compositor.left ≡ left → IsAmong mark (next_marks left lanes.compositor) → IsNewMark lanes mark
+unfolding next_marks
 of_step lanes [] mark next a = absurd a
-of_step lanes (Pull ∷ left) mark next a = absurd a
-of_step lanes (Activate ∷ left) mark next a = go lanes.compositor.pending refl a
+of_step lanes (step ∷ left) mark next a =
+    by_step (λ step. lanes.compositor.left ≡ step ∷ left → IsAmong mark (marks_of_step step lanes.compositor) → IsNewMark lanes mark)
+    (λ step quiet next a. absurd (subst (λ new. IsAmong mark new) (quiet-marks step lanes.compositor quiet) a))
+    (λ next a. go lanes.compositor.pending refl a)
+    (λ time next a. inl (time, left, next, a)) step next a
   where
-    go : (pending : Option Committed) → lanes.compositor.pending ≡ pending → IsAmong mark (activation_marks pending lanes.compositor) → IsNewMark lanes mark
+    go : (pending : Option Committed) → lanes.compositor.pending ≡ pending → IsAmong mark (marks_of_pending pending lanes.compositor) → IsNewMark lanes mark
     go None e a = absurd a
     go (Some commit) e a = inr (commit, e, a)
-of_step lanes (Tick time ∷ left) mark next a = inl (time, left, next, a)
 
 letter-marks : (lanes : Lanes) (letter : Lane) → (more : List Mark) × ((after_letter lanes letter).compositor.marks ≡ lanes.compositor.marks ++ more) × ((mark : Mark) → IsAmong mark more → IsNewMark lanes mark)
 unfolding compositor_step
 letter-marks lanes Main = ([], sym (append-nil lanes.compositor.marks), λ mark a. absurd a)
-letter-marks lanes Compositor = (step_marks lanes.compositor.left lanes.compositor, takes-marks lanes.main.commits lanes.compositor.left lanes.compositor, λ mark a. of_step lanes lanes.compositor.left mark refl a)
+letter-marks lanes Compositor = (next_marks lanes.compositor.left lanes.compositor, takes-marks lanes.main.commits lanes.compositor.left lanes.compositor, λ mark a. of_step lanes lanes.compositor.left mark refl a)
 
 new-is : (lanes : Lanes) (letter : Lane) → new_marks lanes letter ≡ (letter-marks lanes letter).0
 new-is lanes letter =

@@ -7,10 +7,10 @@ use Rattle.anim_names.specs.declared.lane.Lane.{Lane}
 use Rattle.tree_commit.specs.Trees.{Committed, next_commit}
 use Rattle.tree_commit.specs.Tables.{has_timeline}
 use Rattle.tree_commit.specs.Edits.{Book}
-use Rattle.tree_commit.specs.Scripts.{ScriptLists, IsWellFormed}
-use Rattle.tree_commit.specs.Runs.{MainLane, beginning, after}
-use Rattle.tree_commit.specs.Follows.{IsAmong}
-use Rattle.run_laws.specs.MainTree.{line_of, IdsNameOneModel, NoneReturns, NoGroupGrows, GroupsAgree, TimelinesStay, IsWithinLimits, MainIsWithinLimits}
+use Rattle.run_rules.specs.Scripts.{ScriptLists, IsWellFormed}
+use Rattle.run_rules.specs.Runs.{MainLane, beginning, after}
+use Rattle.anim_names.specs.Lists.{IsAmong}
+use Rattle.run_laws.specs.MainTree.{line_of, IdsNameOneModel, NoneReturns, NoGroupGrows, CommitsAgreeInGroups, TimelinesStay, IsWithinLimits, MainIsWithinLimits}
 use Rattle.tree_commit.proofs.Among.{among-append_cases, any-cases}
 use Rattle.run_laws.proofs.Births.{Birth, birth, births, AreOfOneScript}
 use Rattle.run_laws.proofs.Lines.{FitsBirths, AreOrdered, ordered-last, ordered-precedes}
@@ -63,7 +63,7 @@ line_no_group_grows born line script h older newer a b under model has c =
     let when : new.0 ≡ old.0 = mates.before in
     (ordered-precedes born line h.ordered older newer a b under).stays model new.0 c new.1 (omega (arith, when, old.2))
 
-line_groups_agree : (born : List Birth) (line : List Committed) → AreOfOneScript born → IsLine born line → GroupsAgree line
+line_groups_agree : (born : List Birth) (line : List Committed) → AreOfOneScript born → IsLine born line → CommitsAgreeInGroups line
 line_groups_agree born line script h commit other a b model mate c d same =
     let one = (h.fits commit a).born_before model c in
     let two = (h.fits other b).born_before mate d in
@@ -93,7 +93,7 @@ none_returns script well word = line_none_returns (births 0 script.main) _ (line
 pub no_group_grows : (script : ScriptLists) → IsWellFormed script → (word : List Lane) → NoGroupGrows (line_of (after (beginning script) word).main)
 no_group_grows script well word = line_no_group_grows (births 0 script.main) _ (one_script script well) (line_at script well word)
 
-pub groups_agree : (script : ScriptLists) → IsWellFormed script → (word : List Lane) → GroupsAgree (line_of (after (beginning script) word).main)
+pub groups_agree : (script : ScriptLists) → IsWellFormed script → (word : List Lane) → CommitsAgreeInGroups (line_of (after (beginning script) word).main)
 groups_agree script well word = line_groups_agree (births 0 script.main) _ (one_script script well) (line_at script well word)
 
 pub timelines_stay : (script : ScriptLists) → IsWellFormed script → (word : List Lane) → TimelinesStay (line_of (after (beginning script) word).main)

@@ -1,16 +1,16 @@
 -- Words of two parts, and marks that only grow.
-use Rattle.std.proofs.Common.{◌≡◌, Bool, true, false, cond, Option, Some, None, List, [], ◌∷◌, ◌++◌, refl, sym, ap, ◌∙◌, append_assoc}
+use Rattle.std.proofs.Common.{◌≡◌, List, [], ◌∷◌, ◌++◌, sym, ap, ◌∙◌, append_assoc}
 use Rattle.std.proofs.lemmas.List.Sums.{fold-append}
 use Rattle.std.proofs.lemmas.List.{append-nil}
 use Rattle.anim_names.specs.declared.lane.Lane.{Lane}
 use Rattle.anim_names.specs.declared.lane.Lane.TheVariants.{Main, Compositor}
-use Rattle.tree_commit.specs.declared.runs.compositor_step.CompositorStep.{CompositorStep}
-use Rattle.tree_commit.specs.declared.runs.compositor_step.CompositorStep.TheVariants.{Pull, Activate, Tick}
+use Rattle.run_rules.specs.declared.compositor_step.CompositorStep.{CompositorStep}
 use Rattle.anim_names.specs.Lists.{BeginsWith}
 use Rattle.run_laws.specs.Growth.{MarksOnlyGrow}
-use Rattle.tree_commit.specs.Marks.{marks_of_tick, marks_of_activation}
+use Rattle.run_laws.specs.Steps.{marks_of_step}
+use Rattle.run_laws.proofs.CompositorSteps.{makes-marks}
 use Rattle.tree_commit.specs.Trees.{Committed}
-use Rattle.tree_commit.specs.Runs.{Lanes, CompositorLane, after_letter, after, after_activation, compositor_step, compositor_makes, compositor_takes}
+use Rattle.run_rules.specs.Runs.{Lanes, CompositorLane, after_letter, after, compositor_step, compositor_takes}
 
 pub after-append : (lanes : Lanes) (first second : List Lane) → after lanes (first ++ second) ≡ after (after lanes first) second
 unfolding after
@@ -26,22 +26,10 @@ goes_on_trans xs ys zs (more, e) (rest, f) = (more ++ rest, f ∙ ap (λ l. l ++
 
 -- ---- marks only grow
 
-marks-pull : (taken : Bool) (lane : CompositorLane) (pulled : CompositorLane) → pulled.marks ≡ lane.marks → (cond taken pulled lane).marks ≡ lane.marks
-marks-pull true lane pulled same = same
-marks-pull false lane pulled same = refl
-
-activation_grows : (pending : Option Committed) (lane : CompositorLane) → BeginsWith (after_activation pending lane).marks lane.marks
-activation_grows None lane = goes_on_same lane.marks
-activation_grows (Some commit) lane = (marks_of_activation lane.active.tree commit lane.marks, refl)
-
-makes_grows : (commits : List Committed) (step : CompositorStep) (lane : CompositorLane) → BeginsWith (compositor_makes commits step lane).marks lane.marks
-makes_grows commits Pull lane = ([], marks-pull _ lane _ refl ∙ sym (append-nil lane.marks))
-makes_grows commits Activate lane = activation_grows lane.pending lane
-makes_grows commits (Tick time) lane = (marks_of_tick lane.active.tree lane.pending lane.marks time, refl)
-
 takes_grows : (commits : List Committed) (left : List CompositorStep) (lane : CompositorLane) → BeginsWith (compositor_takes commits left lane).marks lane.marks
 takes_grows commits [] lane = goes_on_same lane.marks
-takes_grows commits (step ∷ left) lane = makes_grows commits step (record lane { left = left })
+takes_grows commits (step ∷ left) lane =
+    let now : CompositorLane = record lane { left = left } in (marks_of_step step now, makes-marks commits step now)
 
 pub letter_grows : (lanes : Lanes) (letter : Lane) → BeginsWith (after_letter lanes letter).compositor.marks lanes.compositor.marks
 unfolding compositor_step

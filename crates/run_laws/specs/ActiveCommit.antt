@@ -3,11 +3,11 @@ use Rattle.std.specs.Prelude.{ℕ, IsTrue}
 use Rattle.std.specs.List.{list_any}
 use Rattle.anim_names.specs.declared.lane.Lane.{Lane}
 use Rattle.keyframe_model.specs.Models.{Spec}
-use Rattle.tree_commit.specs.declared.runs.mark.Mark.{Mark}
+use Rattle.run_rules.specs.declared.mark.Mark.{Mark}
 use Rattle.tree_commit.specs.Trees.{has_model}
-use Rattle.tree_commit.specs.Marks.{model_of, starts_in, is_started, is_ended, is_running}
-use Rattle.tree_commit.specs.Runs.{Lanes}
-use Rattle.tree_commit.specs.Follows.{IsAmong}
+use Rattle.run_rules.specs.Marks.{of_model, starts_in, is_started, is_ended, is_unfinished}
+use Rattle.run_rules.specs.Runs.{Lanes}
+use Rattle.anim_names.specs.Lists.{IsAmong}
 use Rattle.run_laws.specs.Steps.{new_marks}
 use Rattle.run_laws.specs.Groups.{StartsAgree}
 
@@ -15,12 +15,12 @@ use Rattle.run_laws.specs.Groups.{StartsAgree}
 abbrev pub MarkedAreActive : Lanes → Lane → Type 0
 MarkedAreActive lanes letter =
     (mark : Mark) → IsAmong mark (new_marks lanes letter)
-    → IsTrue (has_model lanes.compositor.active.tree (model_of mark))
+    → IsTrue (of_model (λ model what. has_model lanes.compositor.active.tree model) mark)
 
 -- Each model that is started and not ended is in the active commit.
 abbrev pub RunningIsActive : Lanes → Type 0
 RunningIsActive lanes =
-    (id : ℕ) → IsTrue (is_running lanes.compositor.marks id) → IsTrue (has_model lanes.compositor.active.tree id)
+    (id : ℕ) → IsTrue (is_unfinished lanes.compositor.marks id) → IsTrue (has_model lanes.compositor.active.tree id)
 
 -- Each model of the active commit that is ended had started.
 abbrev pub EndedHadStarted : Lanes → Type 0

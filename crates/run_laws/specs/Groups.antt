@@ -1,31 +1,28 @@
 -- Groups: their models start together and finish together, with their element there, and block alone.
-use Rattle.std.specs.Prelude.{◌≡◌, ℕ, ℤ, Bool, ◌&&◌, IsTrue, IsFalse, List}
+use Rattle.std.specs.Prelude.{◌≡◌, ℕ, Bool, ◌&&◌, IsTrue, IsFalse, List}
 use Rattle.std.specs.List.{list_any}
 use Rattle.anim_names.specs.declared.lane.Lane.{Lane}
 use Rattle.anim_names.specs.declared.property.Property.{Property}
-use Rattle.tree_commit.specs.declared.runs.mark.Mark.{Mark}
-use Rattle.tree_commit.specs.declared.runs.mark.Mark.TheVariants.{Started, Finished, Aborted}
+use Rattle.run_rules.specs.declared.mark.Begun.{Begun}
+use Rattle.run_rules.specs.declared.mark.Mark.{Mark}
 use Rattle.tree_commit.specs.Trees.{has_element}
-use Rattle.tree_commit.specs.Marks.{starts, starts_in, blocks, pending_allows}
-use Rattle.tree_commit.specs.Runs.{Lanes, after_letter}
-use Rattle.tree_commit.specs.Follows.{IsAmong}
+use Rattle.run_rules.specs.Marks.{starts, starts_in, blocks, pending_allows}
+use Rattle.run_rules.specs.Runs.{Lanes, after_letter}
+use Rattle.anim_names.specs.Lists.{IsAmong}
 use Rattle.run_laws.specs.Steps.{new_marks}
 use Rattle.run_laws.specs.Ends.{is_finished, is_group_finished}
+use Rattle.run_laws.specs.Starts.{IfStarts}
 
 -- ---- starts
 
--- The mark is no start in the group, or one of the same element, at the same tick and with the same recorded start.
-abbrev pub StartsLike : ℕ → ℕ → ℕ → ℤ → Mark → Type 0
-StartsLike group element at start (Started model other_group other_element property other_at other_start) =
-    group ≡ other_group → (element ≡ other_element) × (at ≡ other_at) × (start ≡ other_start)
-StartsLike group element at start (Finished model other_at) = Unit {0}
-StartsLike group element at start (Aborted model commit) = Unit {0}
+-- Two models that start in one group are of one element, and start at one tick with one recorded start.
+abbrev pub BeginAlike : Begun → Begun → Type 0
+BeginAlike begun other =
+    begun.group ≡ other.group → (begun.element ≡ other.element) × (begun.at ≡ other.at) × (begun.start ≡ other.start)
 
 -- two starts in one group are alike
 abbrev pub AreAlike : Mark → Mark → Type 0
-AreAlike (Started model group element property at start) other = StartsLike group element at start other
-AreAlike (Finished model at) other = Unit {0}
-AreAlike (Aborted model commit) other = Unit {0}
+AreAlike one other = IfStarts (λ begun. IfStarts (BeginAlike begun) other) one
 
 -- all starts of a group agree
 abbrev pub StartsAgree : List Mark → Type 0
@@ -42,11 +39,10 @@ pub record StartsTogether (lanes : Lanes) (letter : Lane) : Type 0 where
 -- A start is of an element that is in the active commit and, where the pending commit holds a model of the group, in
 -- that too.
 abbrev pub HasTarget : Lanes → Mark → Type 0
-HasTarget lanes (Started model group element property at start) =
-    IsTrue (has_element lanes.compositor.active.tree element)
-    × IsTrue (pending_allows lanes.compositor.pending group element)
-HasTarget lanes (Finished model at) = Unit {0}
-HasTarget lanes (Aborted model commit) = Unit {0}
+HasTarget lanes mark =
+    IfStarts (λ begun.
+    IsTrue (has_element lanes.compositor.active.tree begun.element)
+    × IsTrue (pending_allows lanes.compositor.pending begun.group begun.element)) mark
 
 -- so is each start that a step makes, by the commits before the step
 abbrev pub TargetsPresent : Lanes → Lane → Type 0

@@ -3,12 +3,11 @@ use Rattle.std.specs.Prelude.{◌≡◌, ℕ, ◌+◌, Bool, true, false, List, 
 use Rattle.anim_names.specs.declared.lane.Lane.{Lane}
 use Rattle.anim_names.specs.declared.lane.Lane.TheVariants.{Main}
 use Rattle.anim_names.specs.Lanes.{letters_of}
-use Rattle.anim_names.specs.Lists.{BeginsWith}
+use Rattle.anim_names.specs.Lists.{BeginsWith, IsAmong}
 use Rattle.tree_commit.specs.Trees.{Committed, empty_commit}
-use Rattle.tree_commit.specs.Marks.{event_of}
-use Rattle.tree_commit.specs.Scripts.{StepOfMain, EditStep, CommitStep, DrainStep, ScriptLists}
-use Rattle.tree_commit.specs.Runs.{Lanes, beginning, after}
-use Rattle.tree_commit.specs.Follows.{IsAmong}
+use Rattle.run_rules.specs.Marks.{event_of}
+use Rattle.run_rules.specs.Scripts.{StepOfMain, EditStep, CommitStep, DrainStep, ScriptLists}
+use Rattle.run_rules.specs.Runs.{Lanes, beginning, after}
 
 -- ---- marks and commits
 

@@ -3,8 +3,8 @@ use Rattle.std.specs.Prelude.{◌≡◌, ℕ, ◌+◌, List, [], ◌∷◌, ◌+
 use Rattle.anim_names.specs.declared.event.AnimEvent.{AnimEvent}
 use Rattle.anim_names.specs.declared.lane.Lane.{Lane}
 use Rattle.anim_names.specs.declared.lane.Lane.TheVariants.{Main, Compositor}
-use Rattle.tree_commit.specs.Scripts.{StepOfMain, EditStep, CommitStep, DrainStep, ScriptLists}
-use Rattle.tree_commit.specs.Runs.{Lanes, unheard_events, beginning, after_letter, report_of}
+use Rattle.run_rules.specs.Scripts.{StepOfMain, EditStep, CommitStep, DrainStep, ScriptLists}
+use Rattle.run_rules.specs.Runs.{Lanes, unheard_events, beginning, after_letter, report_of}
 
 -- what main's next step hears of the unheard events: a drain hears them all
 abbrev pub batch_of_step : List StepOfMain → List AnimEvent → List (List AnimEvent)

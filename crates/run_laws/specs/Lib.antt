@@ -7,5 +7,6 @@ pub mod Hearing
 pub mod MainTree
 pub mod Numbers
 pub mod Shown
+pub mod Starts
 pub mod Steps
 pub mod Words

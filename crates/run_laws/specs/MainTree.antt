@@ -1,19 +1,19 @@
 -- Main's tree and its commits along a run.
 use Rattle.std.specs.Prelude.{◌≡◌, ◌≤◌, ◌<◌, IsTrue, List, [], ◌∷◌, ◌++◌, length, map, All}
 use Rattle.anim_names.specs.declared.limit.TheConstants.{MOST_COMMITS, MOST_ELEMENTS, MOST_MODELS, MOST_TIMELINES}
-use Rattle.anim_names.specs.Lists.{BeginsWith}
+use Rattle.anim_names.specs.Lists.{BeginsWith, IsAmong}
 use Rattle.keyframe_model.specs.Models.{Spec}
 use Rattle.tree_commit.specs.Trees.{TreeLists, Clock, Committed, next_commit, has_group}
 use Rattle.tree_commit.specs.Tables.{HasAllTimelines}
 use Rattle.tree_commit.specs.Edits.{Book, is_in}
-use Rattle.tree_commit.specs.Runs.{MainLane}
-use Rattle.tree_commit.specs.Follows.{AgreeAsGroup, IsAmong}
+use Rattle.run_rules.specs.Runs.{MainLane}
+use Rattle.run_rules.specs.Follows.{AgreeAsGroup}
 
 -- ---- the book
 
 -- The tree and the book of all steps so far go together: the book names the elements and the timelines of the tree, in
 -- their order, each model of the tree was added, and its timeline is there.
-pub record GoTogether (book : Book) (tree : TreeLists) : Type 0 where
+pub record BookGoesWithTree (book : Book) (tree : TreeLists) : Type 0 where
   pub elements : book.elements ≡ map (λ element. element.id) tree.elements
   pub timelines : book.timelines ≡ map (λ clock. clock.id) tree.timelines
   pub models_added : All (λ model. IsTrue (is_in model.id book.models)) tree.models
@@ -48,8 +48,8 @@ NoGroupGrows line =
     → IsAmong model older.tree.models
 
 -- The models of a group agree, in whichever commits they are.
-abbrev pub GroupsAgree : List Committed → Type 0
-GroupsAgree line =
+abbrev pub CommitsAgreeInGroups : List Committed → Type 0
+CommitsAgreeInGroups line =
     (commit other : Committed) → IsAmong commit line → IsAmong other line
     → (model mate : Spec) → IsAmong model commit.tree.models → IsAmong mate other.tree.models → model.group ≡ mate.group
     → AgreeAsGroup model mate

@@ -1,22 +1,20 @@
 -- How large the numbers of a run grow.
-use Rattle.std.specs.Prelude.{◌≡◌, ℕ, ◌*◌, ◌≤◌, ◌<◌, ◌^◌, unsigned_abs, List, length, Some}
+use Rattle.std.specs.Prelude.{◌≡◌, ℕ, ◌≤◌, ◌<◌, ◌^◌, unsigned_abs, List, length, Some}
 use Rattle.anim_timeline.specs.declared.TheConstants.{LAST_TIME}
 use Rattle.micro_time.specs.declared.TheConstants.{LARGEST_LOCAL}
 use Rattle.keyframe_model.specs.Models.{Spec}
-use Rattle.tree_commit.specs.declared.runs.mark.Mark.{Mark}
-use Rattle.tree_commit.specs.declared.runs.mark.Mark.TheVariants.{Started, Finished, Aborted}
-use Rattle.tree_commit.specs.declared.runs.shown.Shown.{Shown}
+use Rattle.run_rules.specs.declared.mark.Mark.{Mark}
+use Rattle.tree_commit.specs.declared.shown.Shown.{Shown}
 use Rattle.tree_commit.specs.Trees.{local_time}
-use Rattle.tree_commit.specs.Marks.{start_of}
-use Rattle.tree_commit.specs.Scripts.{ScriptLists, ticks_of, book_of}
-use Rattle.tree_commit.specs.Runs.{Lanes}
-use Rattle.tree_commit.specs.Follows.{IsAmong}
+use Rattle.run_rules.specs.Marks.{start_of}
+use Rattle.run_rules.specs.Scripts.{ScriptLists, event_room, ticks_of}
+use Rattle.run_rules.specs.Runs.{Lanes}
+use Rattle.anim_names.specs.Lists.{IsAmong}
+use Rattle.run_laws.specs.Starts.{IfStarts}
 
 -- the recorded start, of a mark that has one, is at most the last time in size
 abbrev pub HasSmallStart : Mark → Type 0
-HasSmallStart (Started model group element property at start) = unsigned_abs start ≤ LAST_TIME
-HasSmallStart (Finished model at) = Unit {0}
-HasSmallStart (Aborted model commit) = Unit {0}
+HasSmallStart mark = IfStarts (λ begun. unsigned_abs begun.start ≤ LAST_TIME) mark
 
 -- Each recorded start is at most the last time in size.
 abbrev pub StartsAreSmall : List Mark → Type 0
@@ -29,9 +27,9 @@ LocalTimesAreSmall script lanes =
     (tick : ℕ) → IsAmong tick (ticks_of script.compositor)
     → (model : Spec) → IsAmong model lanes.compositor.active.tree.models
     → (shown : Shown) → start_of lanes.compositor.marks model.id ≡ Some shown
-    → unsigned_abs (local_time lanes.compositor.active.tree tick model shown.start) ≤ LARGEST_LOCAL
+    → unsigned_abs (local_time lanes.compositor.active.tree tick model shown) ≤ LARGEST_LOCAL
 
 -- There are at most two marks, and so two events, for each model that the script adds: a number below 2^32.
 pub record EventsAreFew (script : ScriptLists) (lanes : Lanes) : Type 0 where
-  pub two_each : length lanes.compositor.marks ≤ 2 * length (book_of script.main).models
+  pub two_each : length lanes.compositor.marks ≤ event_room script
   pub fit : length lanes.compositor.marks < 2 ^ 32

@@ -2,14 +2,13 @@
 use Rattle.std.specs.Prelude.{◌≡◌, ◌⊎◌, ℕ, ◌+◌, ◌<◌, IsTrue, List, [], ◌∷◌, ◌++◌, length, map, Some, None, IsSomeAnd}
 use Rattle.anim_names.specs.declared.lane.Lane.{Lane}
 use Rattle.anim_names.specs.declared.lane.Lane.TheVariants.{Main, Compositor}
-use Rattle.anim_names.specs.Lists.{BeginsWith}
-use Rattle.tree_commit.specs.declared.runs.mark.Mark.{Mark}
+use Rattle.anim_names.specs.Lists.{BeginsWith, IsAmong}
+use Rattle.run_rules.specs.declared.mark.Mark.{Mark}
 use Rattle.tree_commit.specs.Trees.{Committed, has_model}
-use Rattle.tree_commit.specs.Marks.{model_of}
-use Rattle.tree_commit.specs.Frames.{DrawnFrame}
-use Rattle.tree_commit.specs.Scripts.{ScriptLists, never_fall_from}
-use Rattle.tree_commit.specs.Runs.{Lanes, ReportLists, beginning, after}
-use Rattle.tree_commit.specs.Follows.{IsAmong}
+use Rattle.run_rules.specs.Marks.{is_about}
+use Rattle.run_rules.specs.Frames.{DrawnFrame}
+use Rattle.run_rules.specs.Scripts.{ScriptLists, never_fall_from}
+use Rattle.run_rules.specs.Runs.{Lanes, ReportLists, beginning, after}
 
 -- ---- commit numbers never fall
 
@@ -75,4 +74,4 @@ pub record SkippedIsSilent (script : ScriptLists) (word : List Lane) : Type 0 wh
   pub events :
       (id : ℕ)
       → ((commit : Committed) → IsAmong commit (lanes_at script word).main.commits → IsTrue (has_model commit.tree id) → IsSkipped script word commit.number)
-      → (mark : Mark) → IsAmong mark (lanes_at script word).compositor.marks → model_of mark ≡ id → ⊥
+      → (mark : Mark) → IsAmong mark (lanes_at script word).compositor.marks → IsTrue (is_about id mark) → ⊥

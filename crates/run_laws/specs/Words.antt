@@ -1,8 +1,8 @@
 -- What a whole word leaves: nothing of either lane, a frame for each tick, and a count for each drain and the closing one.
 use Rattle.std.specs.Prelude.{◌≡◌, ◌+◌, Bool, true, false, List, [], length, map, count_by}
 use Rattle.anim_names.specs.declared.lane.Lane.{Lane}
-use Rattle.tree_commit.specs.Scripts.{StepOfMain, EditStep, CommitStep, DrainStep, ScriptLists, ticks_of}
-use Rattle.tree_commit.specs.Runs.{beginning, after, report_of}
+use Rattle.run_rules.specs.Scripts.{StepOfMain, EditStep, CommitStep, DrainStep, ScriptLists, ticks_of}
+use Rattle.run_rules.specs.Runs.{beginning, after, report_of}
 
 abbrev pub is_drain : StepOfMain → Bool
 is_drain (EditStep change) = false

@@ -3,8 +3,8 @@
 ghost use Rattle.std.specs.Prelude.{List};
 ghost use Rattle.anim_names.specs.declared.lane.Lane.{Lane};
 ghost use Rattle.run_laws.specs.ActiveCommit.{EndedHadStarted, GroupsAreWhole, MarkedAreActive, RunningIsActive};
-ghost use Rattle.tree_commit.specs.Runs.{Lanes, after, beginning};
-ghost use Rattle.tree_commit.specs.Scripts.{IsWellFormed, ScriptLists};
+ghost use Rattle.run_rules.specs.Runs.{Lanes, after, beginning};
+ghost use Rattle.run_rules.specs.Scripts.{IsWellFormed, ScriptLists};
 
 /// Each mark that a step makes is of a model of the commit that was active before the step.
 pub fn marked_models_are_active()

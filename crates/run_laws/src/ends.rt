@@ -3,8 +3,8 @@
 ghost use Rattle.std.specs.Prelude.{List};
 ghost use Rattle.anim_names.specs.declared.lane.Lane.{Lane};
 ghost use Rattle.run_laws.specs.Ends.{AbortedWasActive, EndsOnce};
-ghost use Rattle.tree_commit.specs.Runs.{Lanes, after, beginning};
-ghost use Rattle.tree_commit.specs.Scripts.{IsWellFormed, ScriptLists};
+ghost use Rattle.run_rules.specs.Runs.{Lanes, after, beginning};
+ghost use Rattle.run_rules.specs.Scripts.{IsWellFormed, ScriptLists};
 
 /// A model starts once at most and ends once at most. It finishes only after its start, and no mark stands after its
 /// end.

@@ -3,8 +3,8 @@
 ghost use Rattle.std.specs.Prelude.{List};
 ghost use Rattle.anim_names.specs.declared.lane.Lane.{Lane};
 ghost use Rattle.run_laws.specs.Follows.{KnownWereAdded, PendingFollows};
-ghost use Rattle.tree_commit.specs.Runs.{after, beginning};
-ghost use Rattle.tree_commit.specs.Scripts.{IsWellFormed, ScriptLists};
+ghost use Rattle.run_rules.specs.Runs.{after, beginning};
+ghost use Rattle.run_rules.specs.Scripts.{IsWellFormed, ScriptLists};
 
 /// The commit that a pull gives goes on from the active one and from the marks, as long as it is pending.
 pub fn pulled_commits_follow()

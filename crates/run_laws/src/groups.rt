@@ -3,8 +3,8 @@
 ghost use Rattle.std.specs.Prelude.{List};
 ghost use Rattle.anim_names.specs.declared.lane.Lane.{Lane};
 ghost use Rattle.run_laws.specs.Groups.{FinishesTogether, OneBlocker, StartsTogether, TargetsPresent};
-ghost use Rattle.tree_commit.specs.Runs.{Lanes, after, beginning};
-ghost use Rattle.tree_commit.specs.Scripts.{IsWellFormed, ScriptLists};
+ghost use Rattle.run_rules.specs.Runs.{Lanes, after, beginning};
+ghost use Rattle.run_rules.specs.Scripts.{IsWellFormed, ScriptLists};
 
 /// All starts of a group are of one step, and have one element, one tick and one recorded start.
 pub fn groups_start_together()

@@ -3,8 +3,8 @@
 ghost use Rattle.std.specs.Prelude.{List};
 ghost use Rattle.anim_names.specs.declared.lane.Lane.{Lane};
 ghost use Rattle.run_laws.specs.Growth.{CommitsAreCounted, CommitsOnlyGrow, LearntStays, MarksOnlyGrow};
-ghost use Rattle.tree_commit.specs.Runs.{Lanes, after, beginning};
-ghost use Rattle.tree_commit.specs.Scripts.{IsWellFormed, ScriptLists};
+ghost use Rattle.run_rules.specs.Runs.{Lanes, after, beginning};
+ghost use Rattle.run_rules.specs.Scripts.{IsWellFormed, ScriptLists};
 
 /// The marks after a word are those before it and new ones behind them.
 pub fn marks_only_grow()

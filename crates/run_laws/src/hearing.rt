@@ -3,7 +3,7 @@
 ghost use Rattle.std.specs.Prelude.{List};
 ghost use Rattle.anim_names.specs.declared.lane.Lane.{Lane};
 ghost use Rattle.run_laws.specs.Hearing.{CountsAddUp, HeardOnce};
-ghost use Rattle.tree_commit.specs.Scripts.{ScriptLists};
+ghost use Rattle.run_rules.specs.Scripts.{ScriptLists};
 
 /// Over all drains and the closing one main hears each event once, in the order of sending.
 pub fn each_event_is_heard_once()

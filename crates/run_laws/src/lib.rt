@@ -2,7 +2,7 @@
 //!
 //! Each law is the clause of a function with an empty body, for every script and every word of it: most for each list
 //! of letters, since a letter whose lane has no step left changes nothing. Where a law asks for a well-formed script
-//! its clause says so. They speak of the definitions of `tree_commit` alone: no code is meant, and nothing runs here.
+//! its clause says so. They speak of the definitions of `run_rules` alone: no code is meant, and nothing runs here.
 #![tactic(auto)]
 
 pub mod active_commit;

@@ -4,13 +4,13 @@ ghost use Rattle.std.specs.Prelude.{List, take};
 ghost use Rattle.anim_names.specs.declared.lane.Lane.{Lane};
 ghost use Rattle.anim_names.specs.declared.lane.Lane.TheVariants.{Main};
 ghost use Rattle.anim_names.specs.Lanes.{letters_of};
-ghost use Rattle.run_laws.specs.MainTree.{GoTogether, GroupsAgree, IdsNameOneModel, MainIsWithinLimits, NoGroupGrows, NoneReturns, TimelinesStay, line_of};
-ghost use Rattle.tree_commit.specs.Runs.{after, beginning};
-ghost use Rattle.tree_commit.specs.Scripts.{IsWellFormed, ScriptLists, book_of};
+ghost use Rattle.run_laws.specs.MainTree.{BookGoesWithTree, CommitsAgreeInGroups, IdsNameOneModel, MainIsWithinLimits, NoGroupGrows, NoneReturns, TimelinesStay, line_of};
+ghost use Rattle.run_rules.specs.Runs.{after, beginning};
+ghost use Rattle.run_rules.specs.Scripts.{IsWellFormed, ScriptLists, book_of};
 
 /// The book of the steps so far goes together with the tree.
 pub fn book_goes_with_tree()
-    ensures { (script : ScriptLists) → IsWellFormed script → (word : List Lane) → GoTogether (book_of (take (letters_of Main word) script.main)) (after (beginning script) word).main.tree }
+    ensures { (script : ScriptLists) → IsWellFormed script → (word : List Lane) → BookGoesWithTree (book_of (take (letters_of Main word) script.main)) (after (beginning script) word).main.tree }
 {}
 
 /// A model id has one specification, in all commits and in the tree.
@@ -30,7 +30,7 @@ pub fn no_group_grows()
 
 /// The models of a group agree in element, timeline and given start, and differ in property.
 pub fn groups_agree()
-    ensures { (script : ScriptLists) → IsWellFormed script → (word : List Lane) → GroupsAgree (line_of (after (beginning script) word).main) }
+    ensures { (script : ScriptLists) → IsWellFormed script → (word : List Lane) → CommitsAgreeInGroups (line_of (after (beginning script) word).main) }
 {}
 
 /// Timelines stay, each with one zero, and the timeline of each model is there.

@@ -3,8 +3,8 @@
 ghost use Rattle.std.specs.Prelude.{List};
 ghost use Rattle.anim_names.specs.declared.lane.Lane.{Lane};
 ghost use Rattle.run_laws.specs.Numbers.{EventsAreFew, LocalTimesAreSmall, StartsAreSmall};
-ghost use Rattle.tree_commit.specs.Runs.{after, beginning};
-ghost use Rattle.tree_commit.specs.Scripts.{IsWellFormed, ScriptLists};
+ghost use Rattle.run_rules.specs.Runs.{after, beginning};
+ghost use Rattle.run_rules.specs.Scripts.{IsWellFormed, ScriptLists};
 
 /// A recorded start is within the last time that a script may name, on either side of 0.
 pub fn recorded_starts_are_small()

@@ -3,8 +3,8 @@
 ghost use Rattle.std.specs.Prelude.{List};
 ghost use Rattle.anim_names.specs.declared.lane.Lane.{Lane};
 ghost use Rattle.run_laws.specs.Shown.{AllShowActivated, CommitNumbersNeverFall, SkippedIsSilent};
-ghost use Rattle.tree_commit.specs.Runs.{report_of};
-ghost use Rattle.tree_commit.specs.Scripts.{ScriptLists};
+ghost use Rattle.run_rules.specs.Runs.{report_of};
+ghost use Rattle.run_rules.specs.Scripts.{ScriptLists};
 
 /// The commit that a frame shows is never older than the one before.
 pub fn commit_numbers_never_fall()

@@ -3,8 +3,8 @@
 ghost use Rattle.std.specs.Prelude.{◌≡◌, List, ◌++◌, length};
 ghost use Rattle.anim_names.specs.declared.lane.Lane.{Lane};
 ghost use Rattle.run_laws.specs.Words.{IsComplete};
-ghost use Rattle.tree_commit.specs.Runs.{Lanes, after};
-ghost use Rattle.tree_commit.specs.Scripts.{IsWordOf, ScriptLists};
+ghost use Rattle.run_rules.specs.Runs.{Lanes, after};
+ghost use Rattle.run_rules.specs.Scripts.{IsWordOf, ScriptLists};
 
 /// The state after two words is the state after the second from where the first has led.
 pub fn words_join()

@@ -1,11 +1,11 @@
 -- What an easing, a timing and a list are printed as says them.
-use Rattle.std.proofs.Common.{◌≡◌, ◌≢◌, ℕ, zero, suc, ◌+◌, ◌-◌, ◌^◌, ◌<◌, ◌≤◌, Bool, true, false, cond, leb, eqb, ◌&&◌, not, ℤ, pos, negsuc, List, [], ◌∷◌, ◌++◌, map, length, append_assoc, Option, Some, None, Result, Ok, Err, refl, ap, sym, subst, ◌∙◌, arith}
-use Rattle.std.specs.Prelude.{option_and_then, option_map, ok_or, codes, unsigned_abs, int_le}
+use Rattle.std.proofs.Common.{◌≡◌, ℕ, suc, ◌-◌, ◌^◌, ◌<◌, ◌≤◌, Bool, true, false, cond, leb, eqb, ◌&&◌, not, ℤ, pos, negsuc, List, [], ◌∷◌, ◌++◌, map, length, append_assoc, Option, Some, None, Ok, refl, ap, sym, subst, ◌∙◌, arith}
+use Rattle.std.specs.Prelude.{codes, unsigned_abs, int_le}
 use Rattle.std.specs.Option.{option_or}
 use Rattle.std.specs.Str.{bytes_eq}
 use Rattle.std.specs.Fmt.{decimal, signed_decimal}
-use Rattle.std.specs.List.{AllByRecursion, slice_split}
-use Rattle.std.proofs.lemmas.Bool.{leb-true, le-leb}
+use Rattle.std.specs.List.{AllByRecursion}
+use Rattle.std.proofs.lemmas.Bool.{and_parts, leb-true, le-leb}
 use Rattle.std.proofs.lemmas.List.{append-nil}
 use Rattle.std.proofs.lemmas.List.Elements.{All-from_recursion}
 use Rattle.std.proofs.lemmas.List.Splits.{slice_split_none, slice_split_at}
@@ -13,37 +13,29 @@ use Rattle.micro_time.specs.declared.TheConstants.{MOST_ITERATIONS, LAST_ITERATI
 use Rattle.micro_time.specs.declared.iterations.Iterations.{Iterations}
 use Rattle.micro_time.specs.declared.iterations.Iterations.TheVariants.{Finite, Infinite}
 use Rattle.micro_time.specs.declared.fault.TimingFault.{TimingFault}
-use Rattle.micro_time.specs.Timings.{TimingParts, timing_parts, IsTiming, refusal, is_duration, is_offset, are_iterations, is_iteration_start, is_rate}
+use Rattle.micro_time.specs.Timings.{TimingParts, IsTiming, refusal, is_duration, is_offset, are_iterations, is_iteration_start, is_rate}
 use Rattle.value_blend.specs.declared.TheConstants.{LARGEST_NUMBER}
 use Rattle.value_blend.specs.Blends.{IsNumber, is_number}
 use Rattle.easing_fixed.specs.declared.TheConstants.{MOST_INTERVALS, END, LARGEST_Y}
-use Rattle.easing_fixed.specs.declared.fault.EasingFault.{EasingFault}
 use Rattle.easing_fixed.specs.declared.easing.Easing.{Easing}
 use Rattle.easing_fixed.specs.declared.easing.Easing.TheVariants.{Linear, Steps, Cubic}
 use Rattle.easing_fixed.specs.declared.position.StepPosition.{StepPosition}
 use Rattle.easing_fixed.specs.declared.position.StepPosition.TheVariants.{JumpStart, JumpEnd, JumpNone, JumpBoth}
 use Rattle.easing_fixed.specs.Easings.{IsEasing}
-use Rattle.easing_fixed.specs.Steps.{StepParts, AreSteps, least_count, step_refusal}
-use Rattle.easing_fixed.specs.Cubics.{CubicParts, IsCubic, is_x, is_y, cubic_refusal}
+use Rattle.easing_fixed.specs.Steps.{StepParts, AreSteps, least_count}
+use Rattle.easing_fixed.specs.Cubics.{CubicParts, IsCubic, is_x, is_y}
 use Rattle.transform_ops.specs.declared.TheConstants.{MOST_OPERATIONS}
 use Rattle.transform_ops.specs.declared.op.TransformOp.{TransformOp}
 use Rattle.transform_ops.specs.declared.op.TransformOp.TheVariants.{Translate, Scale, Rotate, Skew}
-use Rattle.transform_ops.specs.Operations.{IsOperation, is_operation}
+use Rattle.transform_ops.specs.Operations.{IsOperation}
 use Rattle.transform_ops.specs.Lists.{IsList}
 use Rattle.script_fields.specs.declared.values.TimingNumbers.{TimingNumbers}
-use Rattle.script_fields.specs.Fields.{parts, all_read, unless}
-use Rattle.script_fields.specs.Numbers.{natural_within, number_said}
-use Rattle.script_fields.specs.Values.{natural_of_number, iterations_of, rate_of, timing_with, timing_of}
-use Rattle.script_fields.specs.Keywords.{position_said}
+use Rattle.script_fields.specs.Fields.{parts, all_read}
+use Rattle.script_fields.specs.Values.{iterations_of, rate_of, timing_with, timing_of}
 use Rattle.script_fields.specs.Easings.{keyword_said, steps_of, steps_said, cubic_of, cubic_through, cubic_said, easing_said}
 use Rattle.script_fields.specs.Lists.{operation_with, operation_read, is_none_alone, is_list_long, list_read}
-use Rattle.script_fields.specs.Printed.{position_text, number_text, cubic_text, easing_text, axes_text, turn_text, operation_text, list_fields}
+use Rattle.script_fields.specs.Printed.{position_text, cubic_text, easing_text, axes_text, turn_text, operation_text, list_fields}
 use Rattle.script_fields.proofs.ReadBack.{IsPlain, IsField, field-append, plain_field, no_colons, are_plain, plain_text, are_within, text_field, decimal_plain, signed_plain, natural_back, number_back, position_back, count_of}
-
-both_true : (a b : Bool) → (a && b) ≡ true → (a ≡ true) × (b ≡ true)
-both_true true true h = (refl, refl)
-both_true true false h = absurd cc
-both_true false b h = absurd cc
 
 -- ---- parts
 
@@ -203,7 +195,8 @@ list_fields_fit (op ∷ ops) fits = operations_field (op ∷ ops) fits.within
 
 -- ---- easings
 
-first_ok : {F : Type 0} (a : Bool) (fault : F) (rest : Option F) → cond (not a) (Some fault) rest ≡ None → (a ≡ true) × (rest ≡ None)
+-- where nothing is refused the first test passes, and the rest refuses nothing
+pub first_ok : {F : Type 0} (a : Bool) (fault : F) (rest : Option F) → cond (not a) (Some fault) rest ≡ None → (a ≡ true) × (rest ≡ None)
 first_ok true fault rest h = (refl, h)
 first_ok false fault rest h = absurd cc
 
@@ -228,7 +221,7 @@ plain_cubic = plain_text (codes "cubic") refl
 few_steps : (s : StepParts) → AreSteps s → s.count ≤ MOST_INTERVALS
 few_steps s fits =
     let a = first_ok (leb (least_count s.position) s.count && leb s.count MOST_INTERVALS) _ None fits in
-    leb-true s.count MOST_INTERVALS (both_true (leb (least_count s.position) s.count) (leb s.count MOST_INTERVALS) a.0).1
+    leb-true s.count MOST_INTERVALS (and_parts (leb (least_count s.position) s.count) (leb s.count MOST_INTERVALS) a.0).1
 
 steps_parts : (s : StepParts) → AreSteps s → parts (codes "steps" ++ 58 ∷ (decimal s.count ++ 58 ∷ position_text s.position)) ≡ codes "steps" ∷ decimal s.count ∷ position_text s.position ∷ []
 steps_parts s fits =
@@ -243,7 +236,7 @@ unfolding steps_of
 steps_back s fits = rw (natural_back MOST_INTERVALS s.count (few_steps s fits) (omega arith), position_back s.position, fits) refl
 
 small_x : (x : ℤ) → is_x x ≡ true → unsigned_abs x < 2 ^ 63
-small_x (pos n) h = let le : n ≤ END = leb-true n END (both_true (int_le (pos 0) (pos n)) (leb n END) h).1 in omega arith
+small_x (pos n) h = let le : n ≤ END = leb-true n END (and_parts (int_le (pos 0) (pos n)) (leb n END) h).1 in omega arith
 small_x (negsuc n) h = absurd cc
 
 small_y : (y : ℤ) → is_y y ≡ true → unsigned_abs y < 2 ^ 63
@@ -259,8 +252,8 @@ small_cubic : (c : CubicParts) → IsCubic c → SmallCubic c
 small_cubic c fits =
     let xs = first_ok (is_x c.x1 && is_x c.x2) _ _ fits in
     let ys = first_ok (is_y c.y1 && is_y c.y2) _ None xs.1 in
-    let x = both_true (is_x c.x1) (is_x c.x2) xs.0 in
-    let y = both_true (is_y c.y1) (is_y c.y2) ys.0 in
+    let x = and_parts (is_x c.x1) (is_x c.x2) xs.0 in
+    let y = and_parts (is_y c.y1) (is_y c.y2) ys.0 in
     record { x1 = small_x c.x1 x.0; y1 = small_y c.y1 y.0; x2 = small_x c.x2 x.1; y2 = small_y c.y2 y.1 }
 
 abbrev controls : CubicParts → List ℤ
@@ -346,7 +339,7 @@ iterations_back (Finite count) h =
 iterations_back Infinite h = refl
 
 small_rate : (rate : ℤ) → is_rate rate ≡ true → unsigned_abs rate ≤ LARGEST_RATE
-small_rate rate h = leb-true (unsigned_abs rate) LARGEST_RATE (both_true (leb 1 (unsigned_abs rate)) (leb (unsigned_abs rate) LARGEST_RATE) h).1
+small_rate rate h = leb-true (unsigned_abs rate) LARGEST_RATE (and_parts (leb 1 (unsigned_abs rate)) (leb (unsigned_abs rate) LARGEST_RATE) h).1
 
 rate_back : (rate : ℤ) → unsigned_abs rate ≤ LARGEST_RATE → rate_of rate ≡ Some rate
 rate_back (pos n) h = let le : n ≤ 2 ^ 31 - 1 = omega (arith, h) in rw (le-leb n (2 ^ 31 - 1) le) refl

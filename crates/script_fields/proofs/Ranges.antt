@@ -1,14 +1,13 @@
 -- What a field says is a value that may be.
-use Rattle.std.proofs.Common.{◌≡◌, ℕ, suc, ◌+◌, ◌-◌, ◌^◌, ◌<◌, ◌≤◌, Bool, true, false, cond, leb, ◌&&◌, ℤ, pos, negsuc, List, [], ◌∷◌, length, Option, Some, None, Result, Ok, Err, refl, ap, sym, subst, ◌∙◌, arith}
+use Rattle.std.proofs.Common.{◌≡◌, ℕ, ◌-◌, ◌^◌, ◌≤◌, Bool, true, false, cond, leb, ◌&&◌, ℤ, pos, negsuc, List, [], ◌∷◌, length, Option, Some, None, Result, Ok, Err, refl, ap, sym, subst, ◌∙◌, arith}
 use Rattle.std.specs.Prelude.{option_and_then, option_map, codes, IfSome}
 use Rattle.std.specs.Option.{option_or}
 use Rattle.std.specs.Str.{bytes_eq}
 use Rattle.std.specs.List.{AllByRecursion}
-use Rattle.std.proofs.lemmas.Bool.{leb-true}
+use Rattle.std.proofs.lemmas.Bool.{and_parts, leb-true}
 use Rattle.anim_timeline.specs.declared.TheConstants.{LAST_TIME}
 use Rattle.anim_timeline.specs.Timelines.{IsTime}
 use Rattle.micro_time.specs.declared.TheConstants.{LONGEST_DURATION}
-use Rattle.micro_time.specs.declared.iterations.Iterations.{Iterations}
 use Rattle.micro_time.specs.Timings.{TimingParts, IsTiming, timing_parts, refusal}
 use Rattle.value_blend.specs.declared.TheConstants.{FULL_OPACITY}
 use Rattle.value_blend.specs.Blends.{IsOpacity, IsNumber, is_number, opacity_of}
@@ -16,7 +15,6 @@ use Rattle.easing_fixed.specs.declared.TheConstants.{MOST_INTERVALS}
 use Rattle.easing_fixed.specs.declared.easing.Easing.{Easing}
 use Rattle.easing_fixed.specs.declared.easing.Easing.TheVariants.{Linear, Steps, Cubic}
 use Rattle.easing_fixed.specs.declared.position.StepPosition.{StepPosition}
-use Rattle.easing_fixed.specs.declared.position.StepPosition.TheVariants.{JumpStart, JumpEnd}
 use Rattle.easing_fixed.specs.Easings.{IsEasing}
 use Rattle.easing_fixed.specs.Steps.{step_parts, step_refusal}
 use Rattle.easing_fixed.specs.Cubics.{cubic_parts, cubic_refusal}
@@ -52,11 +50,6 @@ unless_is : {A F : Type 0} (reason : Option F) (x y : A) → unless reason x ≡
 unless_is None x y h = (refl, some_is x y h)
 unless_is (Some f) x y h = absurd cc
 
-and_true : (a b : Bool) → (a && b) ≡ true → (a ≡ true) × (b ≡ true)
-and_true true true h = (refl, refl)
-and_true true false h = absurd cc
-and_true false b h = absurd cc
-
 -- ---- numbers
 
 kept_is : (m n : ℕ) (in_range : Bool) → cond in_range (Some m) None ≡ Some n → (in_range ≡ true) × (m ≡ n)
@@ -67,7 +60,7 @@ within_is : (low high n : ℕ) (read : Option ℕ) → option_and_then (natural_
 within_is low high n None h = absurd cc
 within_is low high n (Some m) h =
     let kept = kept_is m n (leb low m && leb m high) h in
-    let range = and_true (leb low m) (leb m high) kept.0 in
+    let range = and_parts (leb low m) (leb m high) kept.0 in
     (omega (arith, leb-true low m range.0, kept.1), omega (arith, leb-true m high range.1, kept.1))
 
 number_is : (low high n : ℕ) (field : List ℕ) → natural_within low high field ≡ Some n → n ≤ high
@@ -202,19 +195,19 @@ number_fits z h = leb-true _ _ h
 
 operation_fits : (op : TransformOp) → is_operation op ≡ true → IsOperation op
 operation_fits (Translate x y z) h =
-    let b = and_true (is_number x && is_number y) (is_number z) h in
-    let a = and_true (is_number x) (is_number y) b.0 in
+    let b = and_parts (is_number x && is_number y) (is_number z) h in
+    let a = and_parts (is_number x) (is_number y) b.0 in
     (number_fits x a.0, number_fits y a.1, number_fits z b.1)
 operation_fits (Scale x y z) h =
-    let b = and_true (is_number x && is_number y) (is_number z) h in
-    let a = and_true (is_number x) (is_number y) b.0 in
+    let b = and_parts (is_number x && is_number y) (is_number z) h in
+    let a = and_parts (is_number x) (is_number y) b.0 in
     (number_fits x a.0, number_fits y a.1, number_fits z b.1)
 operation_fits (Rotate x y z angle) h =
-    let c = and_true (is_number x && is_number y && is_number z) (is_number angle) h in
-    let b = and_true (is_number x && is_number y) (is_number z) c.0 in
-    let a = and_true (is_number x) (is_number y) b.0 in
+    let c = and_parts (is_number x && is_number y && is_number z) (is_number angle) h in
+    let b = and_parts (is_number x && is_number y) (is_number z) c.0 in
+    let a = and_parts (is_number x) (is_number y) b.0 in
     (number_fits x a.0, number_fits y a.1, number_fits z b.1, number_fits angle c.1)
-operation_fits (Skew x y) h = let a = and_true (is_number x) (is_number y) h in (number_fits x a.0, number_fits y a.1)
+operation_fits (Skew x y) h = let a = and_parts (is_number x) (is_number y) h in (number_fits x a.0, number_fits y a.1)
 
 pub bind_ok : {A B F : Type 0} (r : Result A F) (f : A → Result B F) (y : B) → (r >>= f) ≡ Ok y → (x : A) × (r ≡ Ok x) × (f x ≡ Ok y)
 bind_ok (Ok x) f y h = (x, refl, h)

@@ -1,14 +1,11 @@
 -- What a value is printed as says it, and is plain: no space, no colon and no line feed stands in it.
-use Rattle.std.proofs.Common.{◌≡◌, ◌≢◌, ℕ, zero, suc, ◌+◌, ◌-◌, ◌^◌, ◌<◌, ◌≤◌, Bool, true, false, cond, leb, eqb, ◌&&◌, not, ℤ, pos, negsuc, All, List, [], ◌∷◌, ◌++◌, map, length, append_assoc, Option, Some, None, Result, Ok, Err, refl, ap, sym, subst, ◌∙◌, arith}
-use Rattle.std.specs.Prelude.{option_and_then, option_map, ok_or, codes, unsigned_abs, int_le, IfSome}
-use Rattle.std.specs.Option.{option_or}
+use Rattle.std.proofs.Common.{◌≡◌, ℕ, suc, ◌-◌, ◌^◌, ◌<◌, ◌≤◌, Bool, true, false, eqb, ◌&&◌, not, ℤ, pos, negsuc, List, [], ◌∷◌, ◌++◌, map, Option, Some, None, refl, ap, ◌∙◌, arith}
+use Rattle.std.specs.Prelude.{codes, unsigned_abs, IfSome}
 use Rattle.std.specs.Str.{bytes_eq}
 use Rattle.std.specs.Fmt.{decimal, signed_decimal}
-use Rattle.std.specs.List.{AllByRecursion, slice_split}
-use Rattle.std.proofs.lemmas.Bool.{leb-true, le-leb}
+use Rattle.std.specs.List.{AllByRecursion}
+use Rattle.std.proofs.lemmas.Bool.{and_parts, leb-true, le-leb}
 use Rattle.std.proofs.lemmas.Slice.Eq.{bytes_eq-Decides}
-use Rattle.std.proofs.lemmas.List.Elements.{All-from_recursion}
-use Rattle.std.proofs.lemmas.List.Splits.{slice_split_none, slice_split_at}
 use Rattle.anim_names.specs.declared.lane.Lane.{Lane}
 use Rattle.anim_names.specs.declared.lane.Lane.TheVariants.{Main, Compositor}
 use Rattle.anim_names.specs.declared.property.Property.{Property}
@@ -32,8 +29,8 @@ use Rattle.easing_fixed.specs.declared.position.StepPosition.TheVariants.{JumpSt
 use Rattle.keyframe_model.specs.Models.{IsId}
 use Rattle.script_fields.specs.declared.values.Count.{Count}
 use Rattle.script_fields.specs.declared.values.Count.TheVariants.{Endless, Counted}
-use Rattle.script_fields.specs.Fields.{parts, all_say}
-use Rattle.script_fields.specs.Numbers.{natural_of, natural_within, integer_of, integer_kept, integer_within, number_said}
+use Rattle.script_fields.specs.Fields.{all_say}
+use Rattle.script_fields.specs.Numbers.{natural_of, natural_within, integer_kept, number_said}
 use Rattle.script_fields.specs.Values.{id_said, opacity_said, time_said, key_time_said, start_said, count_said}
 use Rattle.script_fields.specs.Keywords.{property_said, direction_said, fill_said, policy_said, position_said, letter_said, letters_said}
 use Rattle.script_fields.specs.Printed.{property_text, direction_text, fill_text, policy_text, position_text, letter, word_text, start_text, iterations_text}
@@ -48,15 +45,6 @@ is_plain byte = not (eqb byte 32) && (not (eqb byte 58) && not (eqb byte 10))
 abbrev pub IsPlain : List ℕ → Type 0
 IsPlain bytes = AllByRecursion (λ byte. is_plain byte ≡ true) bytes
 
-pub plain-append : (first second : List ℕ) → IsPlain first → IsPlain second → IsPlain (first ++ second)
-plain-append [] second f s = s
-plain-append (b ∷ first) second f s = (f.0, plain-append first second f.1 s)
-
-both_are : (a b : Bool) → (a && b) ≡ true → (a ≡ true) × (b ≡ true)
-both_are true true h = (refl, refl)
-both_are true false h = absurd cc
-both_are false b h = absurd cc
-
 -- bytes that pass the test, one after the other
 unfoldable pub are_plain : List ℕ → Bool
 are_plain [] = true
@@ -65,7 +53,7 @@ are_plain (b ∷ bytes) = is_plain b && are_plain bytes
 pub plain_text : (bytes : List ℕ) → are_plain bytes ≡ true → IsPlain bytes
 unfolding are_plain
 plain_text [] h = tt
-plain_text (b ∷ bytes) h = let p = both_are (is_plain b) (are_plain bytes) h in (p.0, plain_text bytes p.1)
+plain_text (b ∷ bytes) h = let p = and_parts (is_plain b) (are_plain bytes) h in (p.0, plain_text bytes p.1)
 
 three : (a b c : Bool) → (not a && (not b && not c)) ≡ true → (a ≡ false) × (b ≡ false) × (c ≡ false)
 three true b c h = absurd cc
@@ -80,10 +68,6 @@ no_spaces (b ∷ bytes) plain = ((three (eqb b 32) (eqb b 58) (eqb b 10) plain.0
 pub no_colons : (bytes : List ℕ) → IsPlain bytes → AllByRecursion (λ b. eqb b 58 ≡ false) bytes
 no_colons [] plain = tt
 no_colons (b ∷ bytes) plain = ((three (eqb b 32) (eqb b 58) (eqb b 10) plain.0).1, no_colons bytes plain.1)
-
-pub no_line_feeds : (bytes : List ℕ) → IsPlain bytes → AllByRecursion (λ b. eqb b 10 ≡ false) bytes
-no_line_feeds [] plain = tt
-no_line_feeds (b ∷ bytes) plain = ((three (eqb b 32) (eqb b 58) (eqb b 10) plain.0).2, no_line_feeds bytes plain.1)
 
 -- ---- numbers
 
@@ -256,7 +240,7 @@ are_within (b ∷ bytes) = is_within b && are_within bytes
 field_by_test : (bytes : List ℕ) → are_within bytes ≡ true → IsField bytes
 unfolding are_within
 field_by_test [] h = tt
-field_by_test (b ∷ bytes) h = let p = both_are (is_within b) (are_within bytes) h in (p.0, field_by_test bytes p.1)
+field_by_test (b ∷ bytes) h = let p = and_parts (is_within b) (are_within bytes) h in (p.0, field_by_test bytes p.1)
 
 pub property_field : (property : Property) → IsField (property_text property)
 unfolding are_within

@@ -1,7 +1,7 @@
 -- The text of one more operation.
 use Rattle.std.proofs.Common.{◌≡◌, ℕ, ◌+◌, ◌<◌, List, [], ◌∷◌, ◌++◌, length, map, take, Some, Result, OnOk, sym, ap, ◌∙◌, append_assoc, arith}
-use Rattle.std.specs.List.{slice_get}
-use Rattle.std.proofs.lemmas.List.{append-nil, map-append, take_more, length-take-le}
+use Rattle.std.specs.List.{slice_get, flat_map}
+use Rattle.std.proofs.lemmas.List.{append-nil, map-append, take_more, length-take-le, flat_map_more}
 use Rattle.std.proofs.lemmas.Option.{slice_get_within, get_or_from_slice_get}
 use Rattle.std.proofs.lemmas.Result.{on_ok_weaker}
 use Rattle.transform_ops.specs.declared.op.TransformOp.{TransformOp}
@@ -15,9 +15,15 @@ on_ok-appended result old between new first second e appended =
     on_ok_weaker result (λ f. f ∙ ap (λ bytes. bytes ++ second) e ∙ append_assoc old first second) appended
 
 -- one element more of a list, at a place where it was read
-take-read : {A : Type 0} (xs : List A) (i : ℕ) (x : A) → slice_get xs i ≡ Some x → take (i + 1) xs ≡ take i xs ++ x ∷ []
+-- one item more of a list, at an index where it was read
+pub take-read : {A : Type 0} (xs : List A) (i : ℕ) (x : A) → slice_get xs i ≡ Some x → take (i + 1) xs ≡ take i xs ++ x ∷ []
 take-read xs i x e =
     take_more xs i x (slice_get_within xs i x e) ∙ ap (λ y. take i xs ++ y ∷ []) (get_or_from_slice_get xs i x x e)
+
+-- and the text of that item
+pub one_more : {A : Type 0} (f : A → List ℕ) (before : List ℕ) (xs : List A) (i : ℕ) (x : A) → slice_get xs i ≡ Some x
+    → (before ++ flat_map f (take i xs)) ++ f x ≡ before ++ flat_map f (take (i + 1) xs)
+one_more f before xs i x e = flat_map_more f before (take i xs) x ∙ ap (λ read. before ++ flat_map f read) (sym (take-read xs i x e))
 
 further_fields-push : (fields : List (List ℕ)) (field : List ℕ) → further_fields (fields ++ field ∷ []) ≡ further_fields fields ++ 32 ∷ field
 further_fields-push [] field = append-nil (32 ∷ field)

@@ -1,5 +1,5 @@
 -- Fields that are one of a few keywords, and the letters of a word of two lanes.
-use Rattle.std.specs.Prelude.{ℕ, List, [], ◌∷◌, ◌==◌, Option, Some, None, option_map, if◌then◌else◌, codes}
+use Rattle.std.specs.Prelude.{ℕ, List, [], ◌∷◌, ◌==◌, Option, Some, None, if◌then◌else◌, codes}
 use Rattle.std.specs.Str.{bytes_eq}
 use Rattle.anim_names.specs.declared.lane.Lane.{Lane}
 use Rattle.anim_names.specs.declared.lane.Lane.TheVariants.{Main, Compositor}
@@ -7,17 +7,13 @@ use Rattle.anim_names.specs.declared.property.Property.{Property}
 use Rattle.anim_names.specs.declared.property.Property.TheVariants.{Opacity, Transform}
 use Rattle.anim_delegate.specs.declared.policy.Policy.{Policy}
 use Rattle.anim_delegate.specs.declared.policy.Policy.TheVariants.{Auto, FinishedOnly, Manual}
-use Rattle.micro_time.specs.declared.TheConstants.{MOST_ITERATIONS}
 use Rattle.micro_time.specs.declared.direction.Direction.{Direction}
 use Rattle.micro_time.specs.declared.direction.Direction.TheVariants.{Normal, Reverse, Alternate, AlternateReverse}
 use Rattle.micro_time.specs.declared.fill.Fill.{Fill}
 use Rattle.micro_time.specs.declared.fill.Fill.TheVariants.{Neither, Forwards, Backwards, Both}
-use Rattle.micro_time.specs.declared.iterations.Iterations.{Iterations}
-use Rattle.micro_time.specs.declared.iterations.Iterations.TheVariants.{Finite, Infinite}
 use Rattle.easing_fixed.specs.declared.position.StepPosition.{StepPosition}
 use Rattle.easing_fixed.specs.declared.position.StepPosition.TheVariants.{JumpStart, JumpEnd, JumpNone, JumpBoth}
 use Rattle.script_fields.specs.Fields.{all_say}
-use Rattle.script_fields.specs.Numbers.{natural_within}
 
 abbrev pub property_said : List ℕ → Option Property
 property_said keyword =
@@ -58,11 +54,6 @@ position_said keyword =
     if bytes_eq keyword (codes "start") then Some JumpStart else
     if bytes_eq keyword (codes "end") then Some JumpEnd else
     None
-
--- how often a curve is run through, in thousandths
-abbrev pub iterations_said : List ℕ → Option Iterations
-iterations_said field =
-    if bytes_eq field (codes "infinite") then Some Infinite else option_map Finite (natural_within 0 MOST_ITERATIONS field)
 
 -- a letter of a word: M for main, C for the compositor
 abbrev pub letter_said : ℕ → Option Lane

@@ -1,8 +1,7 @@
 -- What the list of a transform is spelled as: the field `none`, or a field for each of 1 to 8 operations.
-use Rattle.std.specs.Prelude.{ℕ, ℤ, Bool, true, false, ◌&&◌, ◌||◌, nat_le, List, [], ◌∷◌, length, Option, Some, None, Result, Ok, Err, ok_or, option_and_then, option_map, if◌then◌else◌, codes}
+use Rattle.std.specs.Prelude.{ℕ, ℤ, Bool, false, ◌&&◌, ◌||◌, nat_le, List, [], ◌∷◌, length, Option, Some, None, Result, Ok, Err, ok_or, option_and_then, option_map, if◌then◌else◌, codes}
 use Rattle.std.specs.Str.{bytes_eq}
 use Rattle.std.specs.Option.{option_or}
-use Rattle.std.specs.Result.{result_ok}
 use Rattle.transform_ops.specs.declared.TheConstants.{MOST_OPERATIONS}
 use Rattle.transform_ops.specs.declared.op.TransformOp.{TransformOp}
 use Rattle.transform_ops.specs.declared.op.TransformOp.TheVariants.{Translate, Scale, Rotate, Skew}
@@ -87,7 +86,3 @@ is_list_long fields = nat_le 1 (length fields) && nat_le (length fields) MOST_OP
 -- the list that fields of this number spell, field by field
 unfoldable pub list_read : List (List ℕ) → Result (List TransformOp) FieldFault
 list_read fields = if is_none_alone fields then Ok [] else all_read operation_read fields
-
--- the list that these fields spell
-unfoldable pub list_said : List (List ℕ) → Option (List TransformOp)
-list_said fields = if is_list_long fields then result_ok (list_read fields) else None

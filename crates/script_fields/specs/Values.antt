@@ -1,5 +1,5 @@
 -- The numbers of a script's fields: ids, values and times, and the numbers of which a timing is made.
-use Rattle.std.specs.Prelude.{ℕ, ◌^◌, ◌-◌, ℤ, pos, negsuc, nat_le, int_le, ◌&&◌, List, Option, Some, None, option_and_then, option_map, if◌then◌else◌, codes}
+use Rattle.std.specs.Prelude.{ℕ, ◌^◌, ◌-◌, ℤ, pos, negsuc, nat_le, List, Option, Some, None, option_and_then, option_map, if◌then◌else◌, codes}
 use Rattle.std.specs.Str.{bytes_eq}
 use Rattle.anim_timeline.specs.declared.TheConstants.{LAST_TIME}
 use Rattle.micro_time.specs.declared.TheConstants.{LONGEST_DURATION}

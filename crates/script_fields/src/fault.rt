@@ -1,3 +1,5 @@
+//! The causes for which a field is refused, which tell a wrong form from a number that is out of range.
+
 use thiserror::Error;
 
 /// What is wrong with a field.

@@ -1,21 +1,15 @@
-ghost use Rattle.std.specs.Prelude.{◌≡◌, ◌<◌, length, map, IfOk, OnOk, MatchOption};
+//! Splitting a line into fields at spaces and a field into parts at colons. What a field says is left to the readers
+//! of numbers and words.
+
+ghost use Rattle.std.specs.Prelude.{◌≡◌, ◌<◌, length, map, OnOk, MatchOption};
 ghost use Rattle.std.specs.Str.{bytes_eq};
 ghost use Rattle.script_fields.specs.Fields.{fields, parts};
 
 use arrayvec::ArrayVec;
-use std::alloc::{AllocError, Global};
+use std::alloc::AllocError;
 
 /// The most parts that a field may have: those of `rotate:X:Y:Z:ANGLE` and of `cubic:X1:Y1:X2:Y2`.
 pub(crate) const MOST_PARTS: usize = 5;
-
-/// The fields of a line, in order.
-pub fn fields_of(alloc: Global, line: &[u8]) -> Result<Vec<&[u8]>, AllocError>
-    ensures { IfOk result (λ found. map (λ field. field.now) found.items ≡ fields line.now) }
-{
-    let mut found = Vec::new(alloc);
-    fields_into(&mut found, line)?;
-    Ok(found)
-}
 
 /// Puts the fields of a line, in order, in place of those of another line: their room is used again.
 pub fn fields_into<'t>(found: &mut Vec<&'t [u8]>, line: &'t [u8]) -> Result<(), AllocError>

@@ -5,11 +5,10 @@ ghost use Rattle.script_fields.specs.Fields.{all_say};
 ghost use Rattle.script_fields.specs.Keywords as said;
 
 use crate::fields::is;
-use crate::numbers::natural_within;
 use anim_delegate::Policy;
 use anim_names::{Lane, Property};
 use easing_fixed::StepPosition;
-use micro_time::{Direction, Fill, Iterations, MOST_ITERATIONS};
+use micro_time::{Direction, Fill};
 use std::alloc::{AllocError, Global};
 
 /// What of its element a model animates.
@@ -89,17 +88,6 @@ pub(crate) fn position_said(keyword: &[u8]) -> Option<StepPosition>
     } else {
         None
     }
-}
-
-/// How often a model runs through its curve, in thousandths.
-pub fn iterations_said(field: &[u8]) -> Option<Iterations>
-    ensures { result ≡ said.iterations_said field.now }
-{
-    if is(field, "infinite") {
-        return Some(Iterations::Infinite);
-    }
-    let count = natural_within(field, 0, u64::from(MOST_ITERATIONS))?;
-    Some(Iterations::Finite(count as u32))
 }
 
 /// The letters of a word: M for a step of main and C for one of the compositor, or a dash alone for none.

@@ -17,6 +17,6 @@ pub mod values;
 
 pub use easings::easing_said;
 pub use fault::FieldFault;
-pub use fields::{fields_into, fields_of, is};
-pub use lists::{list_read, list_said};
-pub use numbers::{integer_within, natural_within, number_said};
+pub use fields::{fields_into, is};
+pub use lists::list_read;
+pub use numbers::{natural_within, number_said};

@@ -11,20 +11,9 @@ use crate::FieldFault;
 use crate::fields::{is, parts_of};
 use crate::numbers::number_said;
 use std::alloc::{AllocError, Global};
-use transform_ops::{ListFault, MOST_OPERATIONS, TransformList, TransformOp};
+use transform_ops::{ListFault, TransformList, TransformOp};
 
-/// The list that fields spell: `none` alone, or 1 to [`MOST_OPERATIONS`] operations.
-#[tactic(auto, unfolding(crate::specs::Lists::list_said))]
-pub fn list_said(alloc: Global, fields: &[&[u8]]) -> Result<Option<TransformList>, AllocError>
-    ensures { IfOk result (λ list. list ≡ said.list_said (map (λ field. field.now) fields.now)) }
-{
-    if fields.is_empty() || fields.len() > MOST_OPERATIONS {
-        return Ok(None);
-    }
-    Ok(list_read(alloc, fields)?.ok())
-}
-
-/// The list that these fields spell, or what is wrong with the first wrong one of them.
+/// The list that these fields spell, or what is wrong with the first wrong one of them: `none` alone, or operations.
 #[tactic(auto, unfolding(crate::specs::Lists::list_read))]
 pub fn list_read(
     alloc: Global,

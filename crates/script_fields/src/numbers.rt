@@ -17,8 +17,8 @@ pub fn natural_within(field: &[u8], low: u64, high: u64) -> Option<u64>
     }
 }
 
-/// The number from `low` to `high` that a field spells, behind a minus where it is negative.
-pub fn integer_within(field: &[u8], low: i64, high: i64) -> Option<i64>
+// The number from `low` to `high` that a field spells, behind a minus where it is negative.
+fn integer_within(field: &[u8], low: i64, high: i64) -> Option<i64>
     ensures value { result ≡ integer_within low high field.now }
     ensures within { IfSome result (λ z. (low ≤ℤ z) × (z ≤ℤ high)) }
 {
@@ -57,7 +57,7 @@ fn kept_within(value: i128, low: i64, high: i64) -> Option<i64>
     }
 }
 
-/// The number that digits spell, lowered to the largest `u64` where it is greater.
+// The number that digits spell, lowered to the largest `u64` where it is greater.
 fn capped_natural(digits: &[u8]) -> Option<u64>
     ensures { result ≡ option_map (min u64.MAX) (natural_of digits.now) }
 {

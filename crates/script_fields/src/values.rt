@@ -1,6 +1,6 @@
 //! The numbers of a script's fields: ids, values and times, and the numbers of which a timing is made.
 
-ghost use Rattle.std.specs.Prelude.{◌≡◌, ◌≤◌, ◌<◌, ◌^◌, IfSome};
+ghost use Rattle.std.specs.Prelude.{◌≡◌, ◌≤◌, ◌<◌, IfSome};
 ghost use Rattle.anim_timeline.specs.declared.TheConstants.{LAST_TIME};
 ghost use Rattle.micro_time.specs.declared.TheConstants.{LONGEST_DURATION};
 ghost use Rattle.script_fields.specs.Values as said;

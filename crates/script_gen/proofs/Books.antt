@@ -5,8 +5,8 @@ use Rattle.std.specs.List.{flat_map, range_with_len}
 use Rattle.std.proofs.lemmas.Bool.{and_parts, and_from, lt-ltb, eq-eqb, ne_eqb}
 use Rattle.std.proofs.lemmas.List.FromFn.{length-range_with_len}
 use Rattle.anim_names.specs.declared.limit.TheConstants.{MOST_COMMITS}
-use Rattle.tree_commit.specs.Edits.{Book, Change, AddElement, RemoveElement, AddTimeline, AddModel, RemoveModel, new_book, is_in, parts_of, edit_refusal, book_after, book_after_commit, new_parts, with_member}
-use Rattle.tree_commit.specs.Scripts.{StepOfMain, EditStep, CommitStep, DrainStep, book_after_step, is_allowed, are_allowed}
+use Rattle.tree_commit.specs.Edits.{Book, Change, AddElement, RemoveElement, AddTimeline, AddModel, RemoveModel, new_book, is_in, parts_of, edit_refusal, book_after, book_after_commit, new_parts, with_member, OnElements, OnTimelines, OnModels}
+use Rattle.run_rules.specs.Scripts.{StepOfMain, EditStep, CommitStep, DrainStep, book_after_step, is_allowed, are_allowed}
 use Rattle.script_gen.specs.declared.TheConstants.{MOST_GENERATED}
 use Rattle.script_gen.specs.Generated.{first_look, opacity_model, transform_model, where_divides, commit_and_drain, adding_steps, dropping_steps, main_steps}
 use Rattle.script_gen.proofs.Numbers.{in_range, not_in_range, next_id}
@@ -94,7 +94,7 @@ length_of ids n so = ap length so ∙ length-range_with_len 1 n
 
 -- the book with an element and its two models, where it had those up to j
 after_pair : (j : ℕ) (book : Book) → Added j book → (divides : Bool) → j < MOST_GENERATED
-    → Lead (Added (j + 1)) (book_after (book_after (book_after book (AddElement (j + 1) first_look)) (AddModel (opacity_model (j + 1)))) (AddModel (transform_model (j + 1))))
+    → Lead (Added (j + 1)) (book_after (book_after (book_after book (OnElements (AddElement (j + 1) first_look))) (OnModels (AddModel (opacity_model (j + 1))))) (OnModels (AddModel (transform_model (j + 1)))))
     (if divides then commit_and_drain else [])
 unfolding book_after opacity_model transform_model
 after_pair j book so divides few =
@@ -114,11 +114,11 @@ after_pair j book so divides few =
 
 -- the first model of the next number
 first_model : (j : ℕ) (book : Book) → Added j book → j < MOST_GENERATED
-    → edit_refusal (book_after book (AddElement (j + 1) first_look)) (AddModel (opacity_model (j + 1))) ≡ None
+    → edit_refusal (book_after book (OnElements (AddElement (j + 1) first_look))) (OnModels (AddModel (opacity_model (j + 1)))) ≡ None
 unfolding book_after opacity_model
 first_model j book so few =
     let count = length_of book.models (2 * j) so.models in
-    first_taken (book_after book (AddElement (j + 1) first_look)) (opacity_model (j + 1)) (record {
+    first_taken (book_after book (OnElements (AddElement (j + 1) first_look))) (opacity_model (j + 1)) (record {
       id = unused book.models (2 * j) (2 * (j + 1) - 1) so.models (omega arith);
       timeline = known_timeline book.timelines so.timelines;
       few = omega arith;
@@ -126,13 +126,13 @@ first_model j book so few =
 
 -- and its second one, which goes with the first
 second_model : (j : ℕ) (book : Book) → Added j book → j < MOST_GENERATED
-    → edit_refusal (book_after (book_after book (AddElement (j + 1) first_look)) (AddModel (opacity_model (j + 1)))) (AddModel (transform_model (j + 1))) ≡ None
+    → edit_refusal (book_after (book_after book (OnElements (AddElement (j + 1) first_look))) (OnModels (AddModel (opacity_model (j + 1))))) (OnModels (AddModel (transform_model (j + 1)))) ≡ None
 unfolding book_after opacity_model transform_model
 second_model j book so few =
     let models = next_id book.models (2 * j) (2 * (j + 1) - 1) (2 * j + 1) so.models (omega arith) (omega arith) in
     let count = length_of _ (2 * j + 1) models in
     let same : eqb (j + 1) (j + 1) ≡ true = eq-eqb _ _ refl in
-    further_taken (book_after (book_after book (AddElement (j + 1) first_look)) (AddModel (opacity_model (j + 1)))) (transform_model (j + 1))
+    further_taken (book_after (book_after book (OnElements (AddElement (j + 1) first_look))) (OnModels (AddModel (opacity_model (j + 1))))) (transform_model (j + 1))
     (new_parts book.commits (opacity_model (j + 1))) (record {
       id = unused _ (2 * j + 1) (2 * (j + 1)) models (omega arith);
       timeline = known_timeline book.timelines so.timelines;
@@ -146,9 +146,9 @@ unfolding adding_steps
 adding j book few so =
     let new = unused book.elements j (j + 1) so.elements (omega arith) in
     let added = so.elements_added in
-    an_edit _ book (AddElement (j + 1) first_look) _ (element_taken book (j + 1) first_look new (omega arith))
-    (an_edit _ _ (AddModel (opacity_model (j + 1))) _ (first_model j book so few)
-    (an_edit _ _ (AddModel (transform_model (j + 1))) _ (second_model j book so few) (after_pair j book so _ few)))
+    an_edit _ book (OnElements (AddElement (j + 1) first_look)) _ (element_taken book (j + 1) first_look new (omega arith))
+    (an_edit _ _ (OnModels (AddModel (opacity_model (j + 1)))) _ (first_model j book so few)
+    (an_edit _ _ (OnModels (AddModel (transform_model (j + 1)))) _ (second_model j book so few) (after_pair j book so _ few)))
 
 -- ---- dropping
 
@@ -160,15 +160,15 @@ pub record Kept (n k : ℕ) (book : Book) : Type 0 where
   pub commits : book.commits ≤ n + 1
 
 maybe_model_dropped : (divides : Bool) (n j : ℕ) (book : Book) → j < n → Kept n j book
-    → Lead (Kept n j) book (if divides then EditStep (RemoveModel (2 * (j + 1))) ∷ [] else [])
+    → Lead (Kept n j) book (if divides then EditStep (OnModels (RemoveModel (2 * (j + 1)))) ∷ [] else [])
 unfolding book_after
 maybe_model_dropped false n j book few so = no_step (Kept n j) book so
 maybe_model_dropped true n j book few so =
     let there = ap (is_in (2 * (j + 1))) so.models ∙ in_range (2 * n) 1 (2 * (j + 1)) (omega arith) (omega arith) in
-    an_edit (Kept n j) book (RemoveModel (2 * (j + 1))) [] (model_removal_taken book _ there) (no_step (Kept n j) book so)
+    an_edit (Kept n j) book (OnModels (RemoveModel (2 * (j + 1)))) [] (model_removal_taken book _ there) (no_step (Kept n j) book so)
 
 maybe_element_dropped : (divides : Bool) (n j : ℕ) (book : Book) → j < n → Kept n j book
-    → Lead (Kept n (j + 1)) book (if divides then EditStep (RemoveElement (j + 1)) ∷ [] else [])
+    → Lead (Kept n (j + 1)) book (if divides then EditStep (OnElements (RemoveElement (j + 1))) ∷ [] else [])
 unfolding book_after
 maybe_element_dropped false n j book few so = no_step (Kept n (j + 1)) book (record {
   elements = λ id above within. so.elements id (omega arith) within;
@@ -177,8 +177,8 @@ maybe_element_dropped false n j book few so = no_step (Kept n (j + 1)) book (rec
   commits = so.commits;
 })
 maybe_element_dropped true n j book few so =
-    an_edit (Kept n (j + 1)) book (RemoveElement (j + 1)) [] (removal_taken book (j + 1) (so.elements (j + 1) (omega arith) (omega arith)))
-    (no_step (Kept n (j + 1)) (book_after book (RemoveElement (j + 1))) (record {
+    an_edit (Kept n (j + 1)) book (OnElements (RemoveElement (j + 1))) [] (removal_taken book (j + 1) (so.elements (j + 1) (omega arith) (omega arith)))
+    (no_step (Kept n (j + 1)) (book_after book (OnElements (RemoveElement (j + 1)))) (record {
       elements = λ id above within.
           let apart : eqb id (j + 1) ≡ false = ne_eqb _ _ (λ e. omega arith) in
           is_in-without id (j + 1) book.elements apart ∙ so.elements id (omega arith) within;
@@ -190,8 +190,8 @@ maybe_element_dropped true n j book few so =
 dropping : (n j : ℕ) (book : Book) → j < n → Kept n j book → Lead (Kept n (j + 1)) book (dropping_steps (j + 1))
 unfolding dropping_steps
 dropping n j book few so =
-    both (Kept n j) (Kept n (j + 1)) book (where_divides 5 (j + 1) (EditStep (RemoveModel (2 * (j + 1))) ∷ []))
-    (where_divides 7 (j + 1) (EditStep (RemoveElement (j + 1)) ∷ [])) (maybe_model_dropped ((j + 1) % 5 == 0) n j book few so)
+    both (Kept n j) (Kept n (j + 1)) book (where_divides 5 (j + 1) (EditStep (OnModels (RemoveModel (2 * (j + 1)))) ∷ []))
+    (where_divides 7 (j + 1) (EditStep (OnElements (RemoveElement (j + 1))) ∷ [])) (maybe_model_dropped ((j + 1) % 5 == 0) n j book few so)
     (λ b kept. maybe_element_dropped ((j + 1) % 7 == 0) n j b few kept)
 
 -- ---- all of main's steps
@@ -200,7 +200,7 @@ dropping n j book few so =
 abbrev pub AddedSoMany : ℕ → Book → Type 0
 AddedSoMany n book = book.elements_added ≡ n
 
-first_book : Added 0 (book_after new_book (AddTimeline 1 0))
+first_book : Added 0 (book_after new_book (OnTimelines (AddTimeline 1 0)))
 unfolding book_after
 first_book = record {
   elements = refl;
@@ -211,13 +211,13 @@ first_book = record {
   commits = omega arith;
 }
 
-all_added : (n : ℕ) → n ≤ MOST_GENERATED → Lead (Added n) new_book (EditStep (AddTimeline 1 0) ∷ flat_map adding_steps (range_with_len 1 n))
+all_added : (n : ℕ) → n ≤ MOST_GENERATED → Lead (Added n) new_book (EditStep (OnTimelines (AddTimeline 1 0)) ∷ flat_map adding_steps (range_with_len 1 n))
 unfolding edit_refusal
 all_added n few =
     let zero_more : 0 + n ≡ n = omega arith in
-    an_edit (Added n) new_book (AddTimeline 1 0) (flat_map adding_steps (range_with_len 1 n)) refl
-    (subst (λ (m : ℕ). Lead (Added m) (book_after new_book (AddTimeline 1 0)) (flat_map adding_steps (range_with_len 1 n))) zero_more
-    (each Added adding_steps n 0 (book_after new_book (AddTimeline 1 0)) (λ j b low high so. adding j b (omega arith) so) first_book))
+    an_edit (Added n) new_book (OnTimelines (AddTimeline 1 0)) (flat_map adding_steps (range_with_len 1 n)) refl
+    (subst (λ (m : ℕ). Lead (Added m) (book_after new_book (OnTimelines (AddTimeline 1 0))) (flat_map adding_steps (range_with_len 1 n))) zero_more
+    (each Added adding_steps n 0 (book_after new_book (OnTimelines (AddTimeline 1 0))) (λ j b low high so. adding j b (omega arith) so) first_book))
 
 all_dropped : (n : ℕ) (book : Book) → Kept n 0 book → Lead (Kept n n) book (flat_map dropping_steps (range_with_len 1 n))
 all_dropped n book so =
@@ -238,7 +238,7 @@ unfolding main_steps
 main_leads n few =
     both (Kept n n) (AddedSoMany n) new_book _ commit_and_drain
     (both (Kept n 0) (Kept n n) new_book _ (flat_map dropping_steps (range_with_len 1 n))
-    (both (Added n) (Kept n 0) new_book (EditStep (AddTimeline 1 0) ∷ flat_map adding_steps (range_with_len 1 n)) commit_and_drain
+    (both (Added n) (Kept n 0) new_book (EditStep (OnTimelines (AddTimeline 1 0)) ∷ flat_map adding_steps (range_with_len 1 n)) commit_and_drain
     (all_added n few)
     (λ b so. let h = so.commits in committed (Kept n 0) b (omega arith) (kept_after_commit n b so)))
     (λ b so. all_dropped n b so))

@@ -5,22 +5,22 @@ use Rattle.std.proofs.lemmas.Bool.{eqb-true, eq-eqb, lt-leb, le-ltb}
 use Rattle.anim_names.specs.declared.limit.TheConstants.{MOST_ELEMENTS, MOST_MODELS}
 use Rattle.keyframe_model.specs.Models.{Spec, property_of}
 use Rattle.tree_commit.specs.Trees.{Look}
-use Rattle.tree_commit.specs.Edits.{Book, GroupParts, AddElement, RemoveElement, AddModel, RemoveModel, is_in, without, is_mixed, parts_of, edit_refusal, model_refusal, new_parts, with_property, with_member}
+use Rattle.tree_commit.specs.Edits.{Book, GroupParts, AddElement, RemoveElement, AddModel, RemoveModel, is_in, without, is_mixed, parts_of, edit_refusal, model_refusal, new_parts, with_property, with_member, OnElements, OnModels}
 
 -- ---- edits that are not refused
 
 pub element_taken : (book : Book) (id : ℕ) (look : Look) → is_in id book.elements ≡ false → book.elements_added < MOST_ELEMENTS
-    → edit_refusal book (AddElement id look) ≡ None
+    → edit_refusal book (OnElements (AddElement id look)) ≡ None
 unfolding edit_refusal
 element_taken book id look new few =
     let few_so : leb MOST_ELEMENTS book.elements_added ≡ false = lt-leb _ _ few in
     rw (new, few_so) refl
 
-pub removal_taken : (book : Book) (id : ℕ) → is_in id book.elements ≡ true → edit_refusal book (RemoveElement id) ≡ None
+pub removal_taken : (book : Book) (id : ℕ) → is_in id book.elements ≡ true → edit_refusal book (OnElements (RemoveElement id)) ≡ None
 unfolding edit_refusal
 removal_taken book id there = rw there refl
 
-pub model_removal_taken : (book : Book) (id : ℕ) → is_in id book.models ≡ true → edit_refusal book (RemoveModel id) ≡ None
+pub model_removal_taken : (book : Book) (id : ℕ) → is_in id book.models ≡ true → edit_refusal book (OnModels (RemoveModel id)) ≡ None
 unfolding edit_refusal
 model_removal_taken book id there = rw there refl
 
@@ -31,7 +31,7 @@ pub record IsNew (book : Book) (model : Spec) : Type 0 where
   pub few : length book.models < MOST_MODELS
 
 -- the first one of its group
-pub first_taken : (book : Book) (model : Spec) → IsNew book model → parts_of book model.group ≡ None → edit_refusal book (AddModel model) ≡ None
+pub first_taken : (book : Book) (model : Spec) → IsNew book model → parts_of book model.group ≡ None → edit_refusal book (OnModels (AddModel model)) ≡ None
 unfolding edit_refusal model_refusal
 first_taken book model new alone =
     let few_so : leb MOST_MODELS (length book.models) ≡ false = lt-leb _ _ new.few in
@@ -41,7 +41,7 @@ first_taken book model new alone =
 pub further_taken : (book : Book) (model : Spec) (parts : GroupParts) → IsNew book model → parts_of book model.group ≡ Some parts
     → book.commits ≤ parts.commits_before
     → is_mixed model.element model.timeline model.start (property_of model) (Some parts) ≡ false
-    → edit_refusal book (AddModel model) ≡ None
+    → edit_refusal book (OnModels (AddModel model)) ≡ None
 unfolding edit_refusal model_refusal
 further_taken book model parts new found before fits =
     let few_so : leb MOST_MODELS (length book.models) ≡ false = lt-leb _ _ new.few in

@@ -13,8 +13,8 @@ use Rattle.value_blend.specs.Blends.{IsOpacity}
 use Rattle.transform_ops.specs.Lists.{IsList}
 use Rattle.curve_keys.specs.Curves.{IsKey, IsCurve, curve_refusal}
 use Rattle.keyframe_model.specs.Models.{IsModel}
-use Rattle.tree_commit.specs.Edits.{AddElement, RemoveElement, AddModel, RemoveModel}
-use Rattle.tree_commit.specs.Scripts.{StepOfMain, EditStep, IsStep}
+use Rattle.tree_commit.specs.Edits.{AddElement, RemoveElement, AddModel, RemoveModel, OnElements, OnModels}
+use Rattle.run_rules.specs.Scripts.{StepOfMain, EditStep, IsStep}
 use Rattle.script_gen.specs.declared.TheConstants.{MOST_GENERATED}
 use Rattle.script_gen.proofs.Numbers.{all-append}
 use Rattle.script_gen.specs.Generated.{timing_of, direction_of, easing_of, fading, sliding, translation, opacity_model, transform_model, first_look, where_divides, commit_and_drain, adding_steps, dropping_steps}
@@ -111,8 +111,8 @@ maybe_one false step so = tt
 pub dropping_may_be : (i : ℕ) → i ≤ MOST_GENERATED → AllByRecursion IsStep (dropping_steps i)
 unfolding dropping_steps
 dropping_may_be i few =
-    all-append IsStep (where_divides 5 i (EditStep (RemoveModel (2 * i)) ∷ [])) (where_divides 7 i (EditStep (RemoveElement i) ∷ []))
-    (maybe_one (i % 5 == 0) (EditStep (RemoveModel (2 * i))) (omega arith)) (maybe_one (i % 7 == 0) (EditStep (RemoveElement i)) (omega arith))
+    all-append IsStep (where_divides 5 i (EditStep (OnModels (RemoveModel (2 * i))) ∷ [])) (where_divides 7 i (EditStep (OnElements (RemoveElement i)) ∷ []))
+    (maybe_one (i % 5 == 0) (EditStep (OnModels (RemoveModel (2 * i)))) (omega arith)) (maybe_one (i % 7 == 0) (EditStep (OnElements (RemoveElement i))) (omega arith))
 
 -- ---- how many they are
 
@@ -123,7 +123,7 @@ add_length false a b c = omega arith
 pub adding_is_short : (i : ℕ) → length (adding_steps i) ≤ 5
 unfolding adding_steps
 adding_is_short i =
-    add_length _ (EditStep (AddElement i first_look)) (EditStep (AddModel (opacity_model i))) (EditStep (AddModel (transform_model i)))
+    add_length _ (EditStep (OnElements (AddElement i first_look))) (EditStep (OnModels (AddModel (opacity_model i)))) (EditStep (OnModels (AddModel (transform_model i))))
 
 drop_length : (drops_model drops_element : Bool) (a b : StepOfMain)
     → length ((if drops_model then a ∷ [] else []) ++ (if drops_element then b ∷ [] else [])) ≤ 2

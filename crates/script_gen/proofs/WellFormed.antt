@@ -3,8 +3,8 @@ use Rattle.std.proofs.Common.{◌≡◌, ℕ, ◌*◌, ◌≤◌, ◌∷◌, ◌
 use Rattle.std.specs.List.{AllByRecursion, flat_map, range_with_len}
 use Rattle.std.proofs.Math.Nat.{mul-le-mul_left}
 use Rattle.anim_names.specs.declared.limit.TheConstants.{MOST_STEPS, MOST_FRAMES}
-use Rattle.tree_commit.specs.Edits.{AddTimeline}
-use Rattle.tree_commit.specs.Scripts.{EditStep, IsStep, IsWellFormed}
+use Rattle.tree_commit.specs.Edits.{AddTimeline, OnTimelines}
+use Rattle.run_rules.specs.Scripts.{EditStep, IsStep, IsWellFormed}
 use Rattle.script_gen.specs.declared.TheConstants.{MOST_GENERATED}
 use Rattle.script_gen.specs.Generated.{commit_and_drain, adding_steps, dropping_steps, ticking_steps, main_steps, compositor_steps, generated_script}
 use Rattle.script_gen.proofs.Numbers.{all-append, all-each, length-each}
@@ -17,11 +17,11 @@ use Rattle.script_gen.proofs.Lanes.{tick_count, ticks_in_order, ticks_in_time, t
 main_may_be : (n : ℕ) → n ≤ MOST_GENERATED → AllByRecursion IsStep (main_steps n)
 unfolding main_steps
 main_may_be n few =
-    all-append IsStep (EditStep (AddTimeline 1 0) ∷ flat_map adding_steps (range_with_len 1 n) ++ commit_and_drain ++ flat_map dropping_steps (range_with_len 1 n))
+    all-append IsStep (EditStep (OnTimelines (AddTimeline 1 0)) ∷ flat_map adding_steps (range_with_len 1 n) ++ commit_and_drain ++ flat_map dropping_steps (range_with_len 1 n))
     commit_and_drain
-    (all-append IsStep (EditStep (AddTimeline 1 0) ∷ flat_map adding_steps (range_with_len 1 n) ++ commit_and_drain)
+    (all-append IsStep (EditStep (OnTimelines (AddTimeline 1 0)) ∷ flat_map adding_steps (range_with_len 1 n) ++ commit_and_drain)
     (flat_map dropping_steps (range_with_len 1 n))
-    (all-append IsStep (EditStep (AddTimeline 1 0) ∷ flat_map adding_steps (range_with_len 1 n)) commit_and_drain
+    (all-append IsStep (EditStep (OnTimelines (AddTimeline 1 0)) ∷ flat_map adding_steps (range_with_len 1 n)) commit_and_drain
     ((omega arith, omega arith), all-each IsStep adding_steps n 1 (λ i low high. adding_may_be i (omega arith)))
     (tt, (tt, tt)))
     (all-each IsStep dropping_steps n 1 (λ i low high. dropping_may_be i (omega arith))))

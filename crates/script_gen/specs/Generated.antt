@@ -19,11 +19,12 @@ use Rattle.transform_ops.specs.declared.op.TransformOp.TheVariants.{Translate}
 use Rattle.curve_keys.specs.declared.key.Key.{Key}
 use Rattle.curve_keys.specs.Curves.{Keyframes, keyframes}
 use Rattle.keyframe_model.specs.Models.{PropertyCurve, OpacityCurve, TransformCurve, curve_duration, Spec, model_parts}
-use Rattle.tree_commit.specs.declared.runs.compositor_step.CompositorStep.{CompositorStep}
-use Rattle.tree_commit.specs.declared.runs.compositor_step.CompositorStep.TheVariants.{Pull, Activate, Tick}
+use Rattle.run_rules.specs.declared.compositor_step.CompositorStep.{CompositorStep}
+use Rattle.run_rules.specs.declared.compositor_step.CompositorStep.TheVariants.{Pull, Activate, Tick}
 use Rattle.tree_commit.specs.Trees.{Look}
-use Rattle.tree_commit.specs.Edits.{AddElement, RemoveElement, AddTimeline, AddModel, RemoveModel}
-use Rattle.tree_commit.specs.Scripts.{StepOfMain, EditStep, CommitStep, DrainStep, ScriptLists}
+use Rattle.tree_commit.specs.Edits.{AddElement, RemoveElement, AddTimeline, AddModel, RemoveModel, OnElements, OnTimelines, OnModels}
+use Rattle.run_rules.specs.Scripts.{StepOfMain, EditStep, CommitStep, DrainStep, ScriptLists}
+use Rattle.anim_names.specs.declared.version.Version.TheVariants.{One}
 use Rattle.frame_script.specs.Scripts.{script_parts}
 
 -- ---- the two models of a number i: of group i, on element i and timeline 1, without a given start
@@ -85,18 +86,18 @@ first_look = record { opacity = 1000000; transform = translation 0 }
 -- element i, its two models, and where 8 divides i a commit
 unfoldable pub adding_steps : ℕ → List StepOfMain
 adding_steps i =
-    EditStep (AddElement i first_look) ∷ EditStep (AddModel (opacity_model i)) ∷ EditStep (AddModel (transform_model i))
+    EditStep (OnElements (AddElement i first_look)) ∷ EditStep (OnModels (AddModel (opacity_model i))) ∷ EditStep (OnModels (AddModel (transform_model i)))
     ∷ where_divides 8 i commit_and_drain
 
 -- where 5 divides i its second model goes, and where 7 divides i element i
 unfoldable pub dropping_steps : ℕ → List StepOfMain
 dropping_steps i =
-    where_divides 5 i (EditStep (RemoveModel (2 * i)) ∷ []) ++ where_divides 7 i (EditStep (RemoveElement i) ∷ [])
+    where_divides 5 i (EditStep (OnModels (RemoveModel (2 * i))) ∷ []) ++ where_divides 7 i (EditStep (OnElements (RemoveElement i)) ∷ [])
 
 -- all is added, and committed, and then some of it is dropped, and that is committed
 unfoldable pub main_steps : ℕ → List StepOfMain
 main_steps n =
-    EditStep (AddTimeline 1 0) ∷ flat_map adding_steps (range_with_len 1 n) ++ commit_and_drain
+    EditStep (OnTimelines (AddTimeline 1 0)) ∷ flat_map adding_steps (range_with_len 1 n) ++ commit_and_drain
     ++ flat_map dropping_steps (range_with_len 1 n) ++ commit_and_drain
 
 -- ---- the compositor's steps
@@ -120,4 +121,4 @@ word_of_rounds main (suc compositor) = replicate (min 3 main) Main ++ Compositor
 
 unfoldable pub generated_script : ℕ → ScriptLists
 generated_script n =
-    script_parts (main_steps n) (compositor_steps n) (word_of_rounds (length (main_steps n)) (length (compositor_steps n)))
+    script_parts One (main_steps n) (compositor_steps n) (word_of_rounds (length (main_steps n)) (length (compositor_steps n)))

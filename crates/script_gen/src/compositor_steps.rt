@@ -4,8 +4,8 @@ ghost use Rattle.std.specs.Prelude.{◌≡◌, ◌++◌, ◌≤◌, IfOk, OnOk};
 ghost use Rattle.script_gen.specs.Generated.{ticking_steps, compositor_steps};
 
 use crate::MOST_GENERATED;
+use run_rules::CompositorStep;
 use std::alloc::{AllocError, Global};
-use tree_commit::CompositorStep;
 
 /// From one tick to the next, in microseconds: some 60 ticks a second.
 const BETWEEN_TICKS: u64 = 16_667;

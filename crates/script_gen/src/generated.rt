@@ -1,3 +1,5 @@
+//! A generated script, put together of its lanes' steps and a word that takes turns between them.
+
 ghost use Rattle.std.specs.Prelude.{◌≡◌, ◌≤◌, IfOk};
 ghost use Rattle.script_gen.specs.Generated.{generated_script};
 
@@ -5,6 +7,7 @@ use crate::MOST_GENERATED;
 use crate::compositor_steps::compositor_steps;
 use crate::main_steps::main_steps;
 use crate::rounds::word_of_rounds;
+use anim_names::Version;
 use frame_script::Script;
 use std::alloc::{AllocError, Global};
 
@@ -18,5 +21,5 @@ pub fn generate(alloc: Global, n: u32) -> Result<Script, AllocError>
     let main = main_steps(alloc, n)?;
     let compositor = compositor_steps(alloc, n)?;
     let word = word_of_rounds(alloc, main.len(), compositor.len())?;
-    Ok(Script::new(main, compositor, word))
+    Ok(Script::new(Version::One, main, compositor, word))
 }

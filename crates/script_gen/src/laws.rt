@@ -1,7 +1,7 @@
 //! The law of the definition: the function's clause is it, and its body does nothing.
 
 ghost use Rattle.std.specs.Prelude.{ℕ, ◌≤◌};
-ghost use Rattle.tree_commit.specs.Scripts.{IsWellFormed};
+ghost use Rattle.run_rules.specs.Scripts.{IsWellFormed};
 ghost use Rattle.script_gen.specs.Generated.{generated_script};
 
 use crate::MOST_GENERATED;

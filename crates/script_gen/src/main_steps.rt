@@ -2,9 +2,10 @@
 
 ghost use Rattle.std.specs.Prelude.{◌≡◌, ◌++◌, ◌∷◌, [], ◌≤◌, map, IfOk, OnOk};
 ghost use Rattle.std.specs.List.{flat_map, range_with_len};
-ghost use Rattle.tree_commit.specs.Edits.{AddElement, AddModel};
-ghost use Rattle.tree_commit.specs.Scripts.{EditStep};
-ghost use Rattle.tree_commit.specs.Views.{change_of, look_of, step_of};
+ghost use Rattle.tree_commit.specs.Edits.{AddElement, AddModel, OnElements, OnModels};
+ghost use Rattle.run_rules.specs.Scripts.{EditStep};
+ghost use Rattle.tree_commit.specs.Views.{change_of, look_of};
+ghost use Rattle.run_rules.specs.Views.{step_of};
 ghost use Rattle.script_gen.specs.Generated.{first_look, commit_and_drain, adding_steps, dropping_steps, main_steps};
 
 use crate::MOST_GENERATED;
@@ -12,9 +13,10 @@ use crate::models::{opacity_model, transform_model, translation};
 use anim_names::{ElementId, ModelId, TimelineId};
 use anim_timeline::Timeline;
 use keyframe_model::ModelSpec;
+use run_rules::MainStep;
 use std::alloc::{AllocError, Global};
 use std::sync::Arc;
-use tree_commit::{Base, Edit, MainStep};
+use tree_commit::{Base, Edit};
 use value_blend::Opacity;
 
 /// A commit comes after each element whose number this divides.
@@ -112,7 +114,7 @@ fn push_dropping(steps: &mut Vec<MainStep>, i: u32) -> Result<(), AllocError>
 
 fn push_element(alloc: Global, steps: &mut Vec<MainStep>, i: u32) -> Result<(), AllocError>
     ensures { OnOk result (map step_of steps.new.items
-        ≡ map step_of steps.old.items ++ EditStep (AddElement i first_look) ∷ []) }
+        ≡ map step_of steps.old.items ++ EditStep (OnElements (AddElement i first_look)) ∷ []) }
 {
     let base = first_base(alloc)?;
     push_edit(
@@ -136,7 +138,7 @@ fn first_base(alloc: Global) -> Result<Base, AllocError>
 
 fn push_model(alloc: Global, steps: &mut Vec<MainStep>, model: ModelSpec) -> Result<(), AllocError>
     ensures { OnOk result (map step_of steps.new.items
-        ≡ map step_of steps.old.items ++ EditStep (AddModel model) ∷ []) }
+        ≡ map step_of steps.old.items ++ EditStep (OnModels (AddModel model)) ∷ []) }
 {
     let spec = Arc::new(alloc, model)?;
     push_edit(steps, Edit::AddModel { spec })

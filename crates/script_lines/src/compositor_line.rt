@@ -1,23 +1,27 @@
 //! The lines of the compositor's steps and of the word, by their fields.
 
-ghost use Rattle.std.specs.Prelude.{◌≡◌, map};
+ghost use Rattle.std.specs.Prelude.{map};
 ghost use Rattle.script_lines.specs.LineFaults.{Gives};
 ghost use Rattle.frame_script.specs.Said as said;
 
 use crate::fault::LineFault;
 use crate::main_line::alone;
-use anim_names::Lane;
+use anim_names::{Lane, Version};
 use frame_script::Cause;
+use run_rules::CompositorStep;
 use script_fields::is;
 use script_fields::keywords::letters_said;
 use script_fields::values::time_said;
 use std::alloc::Global;
-use tree_commit::CompositorStep;
 
-/// A step of the compositor: its name, and the further fields of its line.
+/// A step of the compositor, in a version of the language: its name, and the further fields of its line.
 #[tactic(auto, unfolding(frame_script::specs::Said::compositor_said))]
-pub fn compositor_said(name: &[u8], fields: &[&[u8]]) -> Result<CompositorStep, LineFault>
-    ensures { Gives (λ step. step) result (said.compositor_said name.now (map (λ field. field.now) fields.now)) }
+pub fn compositor_said(
+    _version: Version,
+    name: &[u8],
+    fields: &[&[u8]],
+) -> Result<CompositorStep, LineFault>
+    ensures { Gives (λ step. step) result (said.compositor_said _version name.now (map (λ field. field.now) fields.now)) }
 {
     if is(name, "pull") {
         alone(fields)?;

@@ -1,3 +1,5 @@
+//! The values that end a key's line, by the property of their model: how many fields each takes, and what they say.
+
 ghost use Rattle.std.specs.Prelude.{◌≡◌, ℕ, Bool, true, List, Result, map};
 ghost use Rattle.frame_script.specs.declared.cause.Cause.{Cause};
 ghost use Rattle.script_lines.specs.LineFaults.{Gives};

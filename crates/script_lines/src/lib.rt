@@ -7,13 +7,16 @@
 
 mod compositor_line;
 mod fault;
+mod header_line;
 mod key_line;
 mod key_value;
 mod main_line;
 mod model_line;
+mod own_value;
 
 pub use compositor_line::{compositor_said, word_said};
 pub use fault::LineFault;
+pub use header_line::header_said;
 pub use key_line::key_said;
 pub use key_value::KeyValue;
 pub use main_line::step_said;

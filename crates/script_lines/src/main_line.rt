@@ -1,27 +1,37 @@
 //! The lines of main's steps, by their fields. Whether a step is allowed where it stands is judged later.
 
-ghost use Rattle.std.specs.Prelude.{◌≡◌, ◌≤◌, length, map, IsTrue};
+ghost use Rattle.std.specs.Prelude.{◌≡◌, ◌≤◌, length, true, map, IsTrue};
 ghost use Rattle.transform_ops.specs.declared.TheConstants.{MOST_OPERATIONS};
-ghost use Rattle.tree_commit.specs.Views.{change_of, step_of};
+ghost use Rattle.tree_commit.specs.Views.{change_of};
+ghost use Rattle.run_rules.specs.Views.{step_of};
 ghost use Rattle.frame_script.specs.Causes.{caused};
 ghost use Rattle.script_lines.specs.LineFaults.{Gives};
 ghost use Rattle.frame_script.specs.Said as said;
 ghost use Rattle.script_fields.specs.Lists.{is_list_long, list_read};
 
 use crate::fault::LineFault;
-use anim_names::{ElementId, ModelId, TimelineId};
+use crate::own_value::{is_value_long, value_said};
+use anim_names::{ElementId, ModelId, Property, TimelineId, Version};
 use frame_script::Cause;
+use run_rules::MainStep;
+use script_fields::keywords::property_said;
 use script_fields::values::{id_said, opacity_said, timeline_said};
 use script_fields::{FieldFault, is, list_read};
 use std::alloc::Global;
 use std::sync::Arc;
 use transform_ops::{MOST_OPERATIONS, TransformList};
-use tree_commit::{Base, Edit, MainStep};
+use tree_commit::{Base, Edit};
 
-/// A step of main other than the adding of a model: its name, and the further fields of its line.
+/// A step of main other than the adding of a model, in a version of the language: its name, and the further fields of
+/// its line.
 #[tactic(auto, unfolding(frame_script::specs::Said::step_said))]
-pub fn step_said(alloc: Global, name: &[u8], fields: &[&[u8]]) -> Result<MainStep, LineFault>
-    ensures { Gives step_of result (said.step_said name.now (map (λ field. field.now) fields.now)) }
+pub fn step_said(
+    alloc: Global,
+    version: Version,
+    name: &[u8],
+    fields: &[&[u8]],
+) -> Result<MainStep, LineFault>
+    ensures { Gives step_of result (said.step_said version name.now (map (λ field. field.now) fields.now)) }
 {
     if is(name, "commit") {
         alone(fields)?;
@@ -30,7 +40,7 @@ pub fn step_said(alloc: Global, name: &[u8], fields: &[&[u8]]) -> Result<MainSte
         alone(fields)?;
         Ok(MainStep::Drain)
     } else {
-        match edit_said(alloc, name, fields) {
+        match edit_said(alloc, version, name, fields) {
             Ok(edit) => Ok(MainStep::Edit(edit)),
             Err(fault) => Err(fault),
         }
@@ -47,16 +57,18 @@ pub(crate) fn alone(fields: &[&[u8]]) -> Result<(), LineFault>
     }
 }
 
+// A line that begins with the name of a property sets an element's own value of it.
 #[tactic(auto, unfolding(frame_script::specs::Said::edit_said))]
-fn edit_said(alloc: Global, name: &[u8], fields: &[&[u8]]) -> Result<Edit, LineFault>
-    ensures { Gives change_of result (said.edit_said name.now (map (λ field. field.now) fields.now)) }
+fn edit_said(
+    alloc: Global,
+    _version: Version,
+    name: &[u8],
+    fields: &[&[u8]],
+) -> Result<Edit, LineFault>
+    ensures { Gives change_of result (said.edit_said _version name.now (map (λ field. field.now) fields.now)) }
 {
     if is(name, "element") {
         element_said(alloc, fields)
-    } else if is(name, "opacity") {
-        set_opacity_said(fields)
-    } else if is(name, "transform") {
-        set_transform_said(alloc, fields)
     } else if is(name, "timeline") {
         add_timeline_said(fields)
     } else if is(name, "drop-element") {
@@ -64,7 +76,10 @@ fn edit_said(alloc: Global, name: &[u8], fields: &[&[u8]]) -> Result<Edit, LineF
     } else if is(name, "drop-model") {
         drop_model_said(fields)
     } else {
-        Err(LineFault::Refused(Cause::BadLine))
+        match property_said(name) {
+            Some(property) => own_said(alloc, property, fields),
+            None => Err(LineFault::Refused(Cause::BadLine)),
+        }
     }
 }
 
@@ -91,47 +106,28 @@ fn new_element(alloc: Global, id: &[u8], opacity: &[u8], list: &[&[u8]]) -> Resu
     })
 }
 
-fn set_opacity_said(fields: &[&[u8]]) -> Result<Edit, LineFault>
-    ensures { Gives change_of result (said.set_opacity_said (map (λ field. field.now) fields.now)) }
+fn own_said(alloc: Global, property: Property, fields: &[&[u8]]) -> Result<Edit, LineFault>
+    ensures { Gives change_of result (said.own_said property (map (λ field. field.now) fields.now)) }
 {
     match fields {
-        [id, opacity] => new_opacity(id, opacity),
+        [id, value @ ..] if is_value_long(property, value) => new_own(alloc, property, id, value),
         _ => Err(LineFault::Refused(Cause::BadLine)),
     }
 }
 
-#[tactic(auto, unfolding(frame_script::specs::Said::new_opacity))]
-fn new_opacity(id: &[u8], opacity: &[u8]) -> Result<Edit, LineFault>
-    ensures { Gives change_of result (said.new_opacity id.now opacity.now) }
+#[tactic(auto, unfolding(frame_script::specs::Said::new_own))]
+fn new_own(alloc: Global, property: Property, id: &[u8], value: &[&[u8]]) -> Result<Edit, LineFault>
+    requires { said.is_value_long property (map (λ field. field.now) value.now) ≡ true }
+    ensures { Gives change_of result (said.new_own property id.now (map (λ field. field.now) value.now)) }
 {
     let id = id_said(id).ok_or(Cause::BadNumber)?;
-    let opacity = opacity_said(opacity).ok_or(Cause::BadNumber)?;
-    Ok(Edit::SetOpacity {
-        id: ElementId(id),
-        opacity,
-    })
-}
-
-fn set_transform_said(alloc: Global, fields: &[&[u8]]) -> Result<Edit, LineFault>
-    ensures { Gives change_of result (said.set_transform_said (map (λ field. field.now) fields.now)) }
-{
-    match fields {
-        [id, list @ ..] if is_list_long(list) => new_transform(alloc, id, list),
-        _ => Err(LineFault::Refused(Cause::BadLine)),
+    match value_said(alloc, property, value) {
+        Ok(value) => Ok(Edit::SetOwn {
+            id: ElementId(id),
+            value,
+        }),
+        Err(fault) => Err(fault),
     }
-}
-
-#[tactic(auto, unfolding(frame_script::specs::Said::new_transform))]
-fn new_transform(alloc: Global, id: &[u8], list: &[&[u8]]) -> Result<Edit, LineFault>
-    requires { length list.now ≤ MOST_OPERATIONS }
-    ensures { Gives change_of result (said.new_transform id.now (map (λ field. field.now) list.now)) }
-{
-    let id = id_said(id).ok_or(Cause::BadNumber)?;
-    let transform = shared_list(alloc, list)?;
-    Ok(Edit::SetTransform {
-        id: ElementId(id),
-        transform,
-    })
 }
 
 fn add_timeline_said(fields: &[&[u8]]) -> Result<Edit, LineFault>
@@ -188,7 +184,7 @@ pub(crate) fn is_list_long(fields: &[&[u8]]) -> bool
     !fields.is_empty() && fields.len() <= MOST_OPERATIONS
 }
 
-fn shared_list(alloc: Global, fields: &[&[u8]]) -> Result<Arc<TransformList>, LineFault>
+pub(crate) fn shared_list(alloc: Global, fields: &[&[u8]]) -> Result<Arc<TransformList>, LineFault>
     requires { length fields.now ≤ MOST_OPERATIONS }
     ensures { Gives (λ list. list.value) result (caused (list_read (map (λ field. field.now) fields.now))) }
 {

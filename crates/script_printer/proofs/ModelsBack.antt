@@ -1,9 +1,9 @@
 -- The lines that a model is printed as lead to the script with that model.
-use Rattle.std.proofs.Common.{◌≡◌, ℕ, ◌^◌, ◌<◌, ◌≤◌, Bool, true, false, cond, eqb, ltb, not, ◌&&◌, ℤ, pos, List, [], ◌∷◌, ◌++◌, inl, inr, length, length-append, append_assoc, Option, Some, None, Result, Ok, refl, ap, sym, subst, ◌∙◌, arith}
+use Rattle.std.proofs.Common.{◌≡◌, ℕ, ◌^◌, ◌<◌, ◌≤◌, Bool, true, false, cond, eqb, ltb, ℤ, pos, List, [], ◌∷◌, ◌++◌, inl, inr, length, length-append, append_assoc, Option, Some, None, Result, Ok, refl, ap, sym, subst, ◌∙◌, arith}
 use Rattle.std.specs.Prelude.{codes, option_map, unsigned_abs}
 use Rattle.std.specs.Fmt.{decimal, signed_decimal}
 use Rattle.std.specs.List.{AllByRecursion, flat_map}
-use Rattle.std.proofs.lemmas.Bool.{le-leb, ltb-false}
+use Rattle.std.proofs.lemmas.Bool.{and_parts, le-leb, ltb-false, eq-eqb}
 use Rattle.std.proofs.lemmas.List.{append-nil}
 use Rattle.std.proofs.lemmas.List.Elements.{recursion_from_All}
 use Rattle.std.proofs.lemmas.Bool.Decides.{eqb_tells}
@@ -19,14 +19,14 @@ use Rattle.curve_keys.specs.declared.fault.CurveFault.{CurveFault}
 use Rattle.curve_keys.specs.Curves.{Keyframes, IsKey, is_rising, is_rising_from, begins_at_zero, last_time, curve_refusal}
 use Rattle.keyframe_model.specs.Models.{PropertyCurve, OpacityCurve, TransformCurve, IsPropertyCurve, property_of_curve, curve_duration, Spec, IsModel, IsId}
 use Rattle.tree_commit.specs.declared.edits.refusal.EditRefusal.TheVariants.{Limit}
-use Rattle.tree_commit.specs.Edits.{AddModel, edit_refusal, model_refusal}
-use Rattle.tree_commit.specs.Scripts.{EditStep, ScriptLists, book_of}
+use Rattle.tree_commit.specs.Edits.{OnModels, AddModel, edit_refusal, model_refusal}
+use Rattle.run_rules.specs.Scripts.{EditStep, ScriptLists, book_of}
 use Rattle.script_fields.specs.Fields.{◌>>=◌, joined}
 use Rattle.script_fields.specs.Printed.{property_text, direction_text, fill_text, policy_text, start_text, iterations_text, easing_text, list_fields}
 use Rattle.script_fields.specs.Lists.{is_list_long}
 use Rattle.script_fields.proofs.Ranges.{bind_ok}
 use Rattle.script_fields.proofs.ReadBack.{IsField, plain_field, decimal_plain, signed_plain, text_field, are_within, number_back, id_back, opacity_back, key_time_back, start_back, start_plain, count_back, property_back, property_field, direction_back, direction_field, fill_back, fill_field, policy_back, policy_field, iterations_field}
-use Rattle.script_fields.proofs.PrintBack.{list_back, list_long, list_fields_fit, easing_back, easing_field, numbers_of_timing, ranges_of, timing_back, offset_small, rate_small, start_small}
+use Rattle.script_fields.proofs.PrintBack.{list_back, list_long, list_fields_fit, easing_back, easing_field, numbers_of_timing, ranges_of, timing_back, offset_small, rate_small, start_small, first_ok}
 use Rattle.frame_script.specs.declared.cause.Cause.{Cause}
 use Rattle.frame_script.specs.declared.cause.Cause.TheVariants.{Edit}
 use Rattle.frame_script.specs.declared.model_line.ModelNames.{ModelNames}
@@ -39,11 +39,6 @@ use Rattle.frame_script.proofs.Books.{allowed_is}
 use Rattle.frame_script.proofs.Ranges.{done}
 use Rattle.frame_script.proofs.Lasting.{demand_is}
 use Rattle.script_printer.proofs.Lined.{TextLeads, fields_joined, line_leads, then_leads, not_skipped}
-
-both_true : (a b : Bool) → (a && b) ≡ true → (a ≡ true) × (b ≡ true)
-both_true true true h = (refl, refl)
-both_true true false h = absurd cc
-both_true false b h = absurd cc
 
 -- ---- the line of a model
 
@@ -79,10 +74,6 @@ record MakeCurve {V : Type 0} (keys : List (Key V)) : Type 0 where
   most : length keys ≤ MOST_KEYS
   rising : is_rising keys ≡ true
   begins : begins_at_zero keys ≡ true
-
-first_ok : {F : Type 0} (a : Bool) (fault : F) (rest : Option F) → cond (not a) (Some fault) rest ≡ None → (a ≡ true) × (rest ≡ None)
-first_ok true fault rest h = (refl, h)
-first_ok false fault rest h = absurd cc
 
 make_curve : {V : Type 0} (keys : List (Key V)) → curve_refusal keys ≡ None → MakeCurve keys
 make_curve keys h =
@@ -241,8 +232,8 @@ key_fit is_value value_fields is_long says key printed fits =
     (text_field (codes "key") refl, (plain_field (decimal key.time) (decimal_plain key.time small), (easing_field key.easing fits.easing, printed.fit key.value fits.value)))
 
 next_from : {V : Type 0} (t : ℕ) (front rest : List (Key V)) (key : Key V) → is_rising_from t (front ++ key ∷ rest) ≡ true → ltb (last_time t front) key.time ≡ true
-next_from t [] rest key h = (both_true (ltb t key.time) (is_rising_from key.time rest) h).0
-next_from t (k ∷ front) rest key h = next_from k.time front rest key (both_true (ltb t k.time) (is_rising_from k.time (front ++ key ∷ rest)) h).1
+next_from t [] rest key h = (and_parts (ltb t key.time) (is_rising_from key.time rest) h).0
+next_from t (k ∷ front) rest key h = next_from k.time front rest key (and_parts (ltb t k.time) (is_rising_from k.time (front ++ key ∷ rest)) h).1
 
 next_time : {V : Type 0} (front rest : List (Key V)) (key : Key V) → is_rising (front ++ key ∷ rest) ≡ true → begins_at_zero (front ++ key ∷ rest) ≡ true → is_next_time front key.time ≡ true
 next_time [] rest key rising begins = begins
@@ -285,9 +276,6 @@ one_key_leads keep is_value value_fields is_long says script model front key nex
 not_equal : (a b : ℕ) → a < b → eqb a b ≡ false
 not_equal a b lt = elim (eqb_tells a b) [ inl same ↦ absurd (omega (arith, same.1, lt)) | inr other ↦ other.0 ]
 
-equal : (a b : ℕ) → a ≡ b → eqb a b ≡ true
-equal a b same = elim (eqb_tells a b) [ inl same_ones ↦ same_ones.0 | inr others ↦ absurd (others.1 same) ]
-
 -- one key after the other, up to the last one
 keys_lead : {V : Type 0} (keep : List (Key V) → PropertyKeys) (is_value : V → Type 0) (value_fields : V → List (List ℕ)) (is_long : List (List ℕ) → Bool) (says : List (List ℕ) → Result V Cause)
     → (script : ScriptLists) (model : ModelLine) (front : List (Key V)) (key : Key V) (rest : List (Key V)) (next : ScriptState)
@@ -296,7 +284,7 @@ keys_lead : {V : Type 0} (keep : List (Key V) → PropertyKeys) (is_value : V �
     → model_made script model (keep (front ++ key ∷ rest)) ≡ Ok next
     → TextLeads (at (InModel model (keep front)) script) (flat_map (key_line value_fields) (key ∷ rest)) next
 keys_lead keep is_value value_fields is_long says script model front key [] next printed keeps all rising begins many made =
-    let full : eqb (key_count (keep (front ++ key ∷ []))) model.keys ≡ true = equal _ _ (keeps.many (front ++ key ∷ []) ∙ many) in
+    let full : eqb (key_count (keep (front ++ key ∷ []))) model.keys ≡ true = eq-eqb _ _ (keeps.many (front ++ key ∷ []) ∙ many) in
     let after : after_key script model (keep (front ++ key ∷ [])) ≡ Ok next = rw full made in
     let here = one_key_leads keep is_value value_fields is_long says script model front key next printed keeps all.0 (next_time front [] key rising begins) after in
     subst (λ (text : List ℕ). TextLeads (at (InModel model (keep front)) script) text next) (sym (append-nil (key_line value_fields key))) here
@@ -321,12 +309,12 @@ model_again : (model : Spec) → IsModel model → model_with (line_of model) mo
 model_again model fits = ap (λ (t : TimingParts). record model { timing = t }) (same_timing model.timing (curve_duration model.curve) fits.duration)
 
 -- the model line of a model that may be added may stand, and its last key makes the step
-begun : (script : ScriptLists) (model : Spec) (next : ScriptState) → step_made script (EditStep (AddModel model)) ≡ Ok next → model_allowed script.main (names_of model) ≡ Ok tt
+begun : (script : ScriptLists) (model : Spec) (next : ScriptState) → step_made script (EditStep (OnModels (AddModel model))) ≡ Ok next → model_allowed script.main (names_of model) ≡ Ok tt
 unfolding step_made main_with model_allowed edit_refusal
 begun script model next h =
-    let m = bind_ok (demand (has_room script.main) (Edit (Limit Steps)) >>= λ room. allow (option_map Edit (model_refusal (book_of script.main) model.id model.group model.element model.timeline model.start (property_of_curve model.curve))) >>= λ allowed. done (script.main ++ EditStep (AddModel model) ∷ [])) (λ steps. done (at InMain (with_main script steps))) next h in
-    let d = bind_ok (demand (has_room script.main) (Edit (Limit Steps))) (λ room. allow (option_map Edit (model_refusal (book_of script.main) model.id model.group model.element model.timeline model.start (property_of_curve model.curve))) >>= λ allowed. done (script.main ++ EditStep (AddModel model) ∷ [])) m.0 m.1 in
-    let a = bind_ok (allow (option_map Edit (model_refusal (book_of script.main) model.id model.group model.element model.timeline model.start (property_of_curve model.curve)))) (λ allowed. done (script.main ++ EditStep (AddModel model) ∷ [])) m.0 d.2 in
+    let m = bind_ok (demand (has_room script.main) (Edit (Limit Steps)) >>= λ room. allow (option_map Edit (model_refusal (book_of script.main) model.id model.group model.element model.timeline model.start (property_of_curve model.curve))) >>= λ allowed. done (script.main ++ EditStep (OnModels (AddModel model)) ∷ [])) (λ steps. done (at InMain (with_main script steps))) next h in
+    let d = bind_ok (demand (has_room script.main) (Edit (Limit Steps))) (λ room. allow (option_map Edit (model_refusal (book_of script.main) model.id model.group model.element model.timeline model.start (property_of_curve model.curve))) >>= λ allowed. done (script.main ++ EditStep (OnModels (AddModel model)) ∷ [])) m.0 m.1 in
+    let a = bind_ok (allow (option_map Edit (model_refusal (book_of script.main) model.id model.group model.element model.timeline model.start (property_of_curve model.curve)))) (λ allowed. done (script.main ++ EditStep (OnModels (AddModel model)) ∷ [])) m.0 d.2 in
     rw (demand_is (has_room script.main) (Edit (Limit Steps)) d.1, allowed_is _ a.1) refl
 
 -- all keys of a curve, from none on
@@ -340,17 +328,17 @@ curve_leads keep is_value value_fields is_long says script model (key ∷ keys) 
 
 -- the keys of a model make its curve again
 opacity_made : (script : ScriptLists) (line : ModelLine) (curve : Keyframes ℕ) (next : ScriptState) → curve_refusal curve.keys ≡ None → line.easing ≡ curve.easing
-    → step_made script (EditStep (AddModel (model_with line (OpacityCurve curve)))) ≡ Ok next → model_made script line (OpacityKeys curve.keys) ≡ Ok next
+    → step_made script (EditStep (OnModels (AddModel (model_with line (OpacityCurve curve))))) ≡ Ok next → model_made script line (OpacityKeys curve.keys) ≡ Ok next
 unfolding model_made model_through taken_curve
 opacity_made script line curve next taken bend made = rw (taken, bend) made
 
 transform_made : (script : ScriptLists) (line : ModelLine) (curve : Keyframes (List TransformOp)) (next : ScriptState) → curve_refusal curve.keys ≡ None → line.easing ≡ curve.easing
-    → step_made script (EditStep (AddModel (model_with line (TransformCurve curve)))) ≡ Ok next → model_made script line (TransformKeys curve.keys) ≡ Ok next
+    → step_made script (EditStep (OnModels (AddModel (model_with line (TransformCurve curve))))) ≡ Ok next → model_made script line (TransformKeys curve.keys) ≡ Ok next
 unfolding model_made model_through taken_curve
 transform_made script line curve next taken bend made = rw (taken, bend) made
 
 all_keys_lead : (script : ScriptLists) (line : ModelLine) (curve : PropertyCurve) (next : ScriptState) → IsPropertyCurve curve → keys_there curve ≡ line.keys → line.easing ≡ curve_easing curve
-    → step_made script (EditStep (AddModel (model_with line curve))) ≡ Ok next → TextLeads (at (InModel line (no_keys (property_of_curve curve))) script) (key_lines curve) next
+    → step_made script (EditStep (OnModels (AddModel (model_with line curve)))) ≡ Ok next → TextLeads (at (InModel line (no_keys (property_of_curve curve))) script) (key_lines curve) next
 all_keys_lead script line (OpacityCurve curve) next is many bend made =
     curve_leads OpacityKeys IsOpacity opacity_fields is_one own_opacity script line curve.keys next opacity_printed keeps_opacity (recursion_from_All (IsKey IsOpacity) curve.keys is.each)
     (make_curve curve.keys is.taken) many (opacity_made script line curve next is.taken bend made)
@@ -366,7 +354,7 @@ model_line_said : (script : ScriptLists) (model : Spec) → IsModel model → in
 unfolding in_main
 model_line_said script model fits = rw (model_back model fits) refl
 
-pub model_leads : (script : ScriptLists) (next : ScriptState) (model : Spec) → IsModel model → step_made script (EditStep (AddModel model)) ≡ Ok next → TextLeads (at InMain script) (model_lines model) next
+pub model_leads : (script : ScriptLists) (next : ScriptState) (model : Spec) → IsModel model → step_made script (EditStep (OnModels (AddModel model))) ≡ Ok next → TextLeads (at InMain script) (model_lines model) next
 unfolding model_lines at_stage
 model_leads script next model fits made =
     let line : ModelLine = line_of model in
@@ -375,7 +363,7 @@ model_leads script next model fits made =
     let said : in_main script (model_fields model) ≡ Ok between = model_line_said script model fits ∙ begun_back script line (begun script model next made) in
     let read : after_line (at InMain script) (joined (model_fields model)) ≡ Ok between =
     not_skipped (at InMain script) (joined (model_fields model)) (Ok between) refl (ap (in_main script) (fields_joined (codes "model") (model_args model) all) ∙ said) in
-    let again : step_made script (EditStep (AddModel (model_with line model.curve))) ≡ Ok next = ap (λ (m : Spec). step_made script (EditStep (AddModel m))) (model_again model fits) ∙ made in
+    let again : step_made script (EditStep (OnModels (AddModel (model_with line model.curve)))) ≡ Ok next = ap (λ (m : Spec). step_made script (EditStep (OnModels (AddModel m)))) (model_again model fits) ∙ made in
     then_leads (at InMain script) between next _ (key_lines model.curve)
     (line_leads (at InMain script) between (codes "model") (model_args model) all read)
     (all_keys_lead script line model.curve next fits.curve refl refl again)

@@ -1,22 +1,21 @@
 -- The text of a well-formed script spells it, and no other script has the same text.
-use Rattle.std.proofs.Common.{◌≡◌, ℕ, suc, ◌+◌, ◌*◌, ◌^◌, ◌<◌, ◌≤◌, Bool, true, false, eqb, leb, ◌&&◌, List, [], ◌∷◌, ◌++◌, inl, inr, zero-add, length, length-append, append_assoc, Option, Some, None, Result, Ok, refl, ap, sym, subst, ◌∙◌, arith}
+use Rattle.std.proofs.Common.{◌≡◌, ℕ, suc, ◌+◌, ◌*◌, ◌^◌, ◌<◌, ◌≤◌, true, false, leb, List, [], ◌∷◌, ◌++◌, zero-add, length, length-append, append_assoc, Option, Some, None, Result, Ok, refl, ap, sym, subst, ◌∙◌, arith}
 use Rattle.std.specs.Prelude.{codes, option_map, is_none}
 use Rattle.std.specs.Fmt.{decimal}
 use Rattle.std.specs.List.{AllByRecursion, flat_map}
-use Rattle.std.proofs.lemmas.Bool.{lt-ltb, le-ltb, leb-true}
+use Rattle.std.proofs.lemmas.Bool.{and_parts, lt-ltb, le-ltb, leb-true, eq-eqb}
 use Rattle.std.proofs.lemmas.List.{append-nil}
 use Rattle.std.proofs.Math.Nat.{mul-le-mul_right}
-use Rattle.std.proofs.lemmas.Bool.Decides.{eqb_tells}
 use Rattle.anim_names.specs.Lanes.{letters_of}
 use Rattle.anim_names.specs.declared.lane.Lane.{Lane}
 use Rattle.anim_names.specs.declared.lane.Lane.TheVariants.{Main, Compositor}
 use Rattle.anim_names.specs.declared.limit.TheConstants.{MOST_STEPS, MOST_FRAMES}
 use Rattle.anim_timeline.specs.declared.TheConstants.{LAST_TIME}
 use Rattle.tree_commit.specs.declared.edits.refusal.EditRefusal.{EditRefusal}
-use Rattle.tree_commit.specs.declared.runs.compositor_step.CompositorStep.{CompositorStep}
-use Rattle.tree_commit.specs.declared.runs.compositor_step.CompositorStep.TheVariants.{Pull, Activate, Tick}
+use Rattle.run_rules.specs.declared.compositor_step.CompositorStep.{CompositorStep}
+use Rattle.run_rules.specs.declared.compositor_step.CompositorStep.TheVariants.{Pull, Activate, Tick}
 use Rattle.tree_commit.specs.Edits.{Book, edit_refusal}
-use Rattle.tree_commit.specs.Scripts.{StepOfMain, EditStep, CommitStep, DrainStep, ScriptLists, IsStep, is_allowed, are_allowed, book_of, book_after_step, ticks_of, never_fall_from, are_at_most, IsWellFormed}
+use Rattle.run_rules.specs.Scripts.{StepOfMain, EditStep, CommitStep, DrainStep, ScriptLists, IsStep, is_allowed, are_allowed, book_of, book_after_step, ticks_of, never_fall_from, are_at_most, IsWellFormed}
 use Rattle.script_fields.specs.Fields.{joined}
 use Rattle.script_fields.specs.Printed.{word_text}
 use Rattle.script_fields.proofs.ReadBack.{IsField, plain_field, decimal_plain, text_field, are_within, time_back, word_back, word_plain}
@@ -24,19 +23,17 @@ use Rattle.frame_script.specs.declared.TheConstants.{MOST_BYTES}
 use Rattle.frame_script.specs.declared.cause.Cause.TheVariants.{Edit}
 use Rattle.frame_script.specs.Lines.{lines, is_skipped}
 use Rattle.frame_script.specs.Said.{compositor_said}
-use Rattle.frame_script.specs.States.{AtMain, InMain, InCompositor, AtEnd, Ended, ScriptState, at, empty_script, beginning, step_refusal, main_with, with_main, step_made, last_from, compositor_refusal, compositor_with, with_compositor, compositor_made, word_made, in_compositor, at_stage}
+use Rattle.anim_names.specs.declared.version.Version.{Version}
+use Rattle.anim_names.specs.declared.version.Version.TheVariants.{One}
+use Rattle.frame_script.specs.Headers.{header_text}
+use Rattle.frame_script.specs.States.{AtMain, InMain, InCompositor, AtEnd, Ended, ScriptState, at, empty_script, beginning, step_refusal, main_with, with_main, step_made, last_from, compositor_refusal, compositor_with, with_compositor, compositor_made, word_made, in_compositor, with_version, at_stage}
 use Rattle.frame_script.specs.Reading.{reading_from}
 use Rattle.frame_script.specs.Texts.{Spells}
 use Rattle.frame_script.specs.Printing.{line, step_lines, compositor_line, script_text}
-use Rattle.frame_script.proofs.Books.{book_of-push, ticks_with, ticks_of-push}
+use Rattle.frame_script.proofs.Books.{book_of-push, ticks_with, ticks_of-push, last_from-push}
 use Rattle.frame_script.proofs.Leads.{leads_read}
 use Rattle.script_printer.proofs.Lined.{TextLeads, fields_joined, line_leads, nothing_leads, then_leads, text_leads, not_skipped}
 use Rattle.script_printer.proofs.StepsBack.{step_leads}
-
-both_true : (a b : Bool) → (a && b) ≡ true → (a ≡ true) × (b ≡ true)
-both_true true true h = (refl, refl)
-both_true true false h = absurd cc
-both_true false b h = absurd cc
 
 -- ---- main's steps
 
@@ -60,7 +57,7 @@ unfolding are_allowed
 main_leads script front [] fits allowed few =
     subst (λ (ss : List StepOfMain). TextLeads (at InMain (with_main script front)) [] (at InMain (with_main script ss))) (sym (append-nil front)) (nothing_leads (at InMain (with_main script front)))
 main_leads script front (step ∷ steps) fits allowed few =
-    let b = both_true (is_allowed (book_of front) step) (are_allowed (book_after_step (book_of front) step) steps) allowed in
+    let b = and_parts (is_allowed (book_of front) step) (are_allowed (book_after_step (book_of front) step) steps) allowed in
     let room : length front < MOST_STEPS = omega (arith, length-append front (step ∷ steps)) in
     let moved : (front ++ step ∷ []) ++ steps ≡ front ++ step ∷ steps = append_assoc front (step ∷ []) steps in
     let after : are_allowed (book_of (front ++ step ∷ [])) steps ≡ true = ap (λ (book : Book). are_allowed book steps) (book_of-push front step) ∙ b.1 in
@@ -77,10 +74,6 @@ record MayFollow (elements : ℕ) (ticks : List ℕ) (steps : List CompositorSte
   order : never_fall_from (last_from 0 ticks) (ticks_of steps) ≡ true
   times : are_at_most LAST_TIME (ticks_of steps) ≡ true
   frames : (length ticks + length (ticks_of steps)) * elements ≤ MOST_FRAMES
-
-last_at : (before : ℕ) (times : List ℕ) (time : ℕ) → last_from before (times ++ time ∷ []) ≡ time
-last_at before [] time = refl
-last_at before (next ∷ times) time = last_at next times time
 
 fewer : (a d c most : ℕ) → (a + d) * c ≤ most → a * c ≤ most
 fewer a d c most h = let le : a ≤ a + d = omega arith in omega (arith, mul-le-mul_right c le, h)
@@ -108,13 +101,13 @@ goes_on : (elements : ℕ) (ticks : List ℕ) (step : CompositorStep) (steps : L
 goes_on elements ticks Pull steps may = record { made = refl; after = record { order = may.order; times = may.times; frames = may.frames } }
 goes_on elements ticks Activate steps may = record { made = refl; after = record { order = may.order; times = may.times; frames = may.frames } }
 goes_on elements ticks (Tick time) steps may =
-    let o = both_true (leb (last_from 0 ticks) time) (never_fall_from time (ticks_of steps)) may.order in
-    let t = both_true (leb time LAST_TIME) (are_at_most LAST_TIME (ticks_of steps)) may.times in
+    let o = and_parts (leb (last_from 0 ticks) time) (never_fall_from time (ticks_of steps)) may.order in
+    let t = and_parts (leb time LAST_TIME) (are_at_most LAST_TIME (ticks_of steps)) may.times in
     let count : length (ticks ++ time ∷ []) + length (ticks_of steps) ≡ length ticks + suc (length (ticks_of steps)) = omega (arith, length-append ticks (time ∷ [])) in
     record {
       made = not_refused elements time ticks (ticks_of steps) (leb-true (last_from 0 ticks) time o.0) may.frames;
       after = record {
-        order = ap (λ (last : ℕ). never_fall_from last (ticks_of steps)) (last_at 0 ticks time) ∙ o.1;
+        order = ap (λ (last : ℕ). never_fall_from last (ticks_of steps)) (last_from-push 0 ticks time) ∙ o.1;
         times = t.1;
         frames = subst (λ (n : ℕ). n * elements ≤ MOST_FRAMES) (sym count) may.frames;
       };
@@ -122,7 +115,7 @@ goes_on elements ticks (Tick time) steps may =
 
 -- the times of the ticks are in time
 in_time : (time : ℕ) (steps : List CompositorStep) → are_at_most LAST_TIME (ticks_of (Tick time ∷ steps)) ≡ true → time ≤ LAST_TIME
-in_time time steps h = leb-true time LAST_TIME (both_true (leb time LAST_TIME) (are_at_most LAST_TIME (ticks_of steps)) h).0
+in_time time steps h = leb-true time LAST_TIME (and_parts (leb time LAST_TIME) (are_at_most LAST_TIME (ticks_of steps)) h).0
 
 -- a line of these fields makes of the compositor's part what its fields make of it
 part_leads : (script : ScriptLists) (next : ScriptState) (first : List ℕ) (others : List (List ℕ)) → AllByRecursion IsField (first ∷ others)
@@ -163,28 +156,26 @@ compositor_leads script front (step ∷ steps) may few =
 
 -- ---- the word, and the whole
 
-equal : (a b : ℕ) → a ≡ b → eqb a b ≡ true
-equal a b same = elim (eqb_tells a b) [ inl same_ones ↦ same_ones.0 | inr others ↦ absurd (others.1 same) ]
-
 word_leads : (script : ScriptLists) (word : List Lane) → letters_of Main word ≡ length script.main → letters_of Compositor word ≡ length script.compositor
     → TextLeads (at InCompositor script) (line (codes "word" ∷ word_text word ∷ [])) (at AtEnd (record script { word = word }))
 unfolding in_compositor word_made are_within
 word_leads script word mains compositors =
     part_leads script (at AtEnd (record script { word = word })) (codes "word") (word_text word ∷ []) (text_field (codes "word") refl, (plain_field (word_text word) (word_plain word), tt)) refl
-    (rw (word_back word, equal (letters_of Main word) (length script.main) mains, equal (letters_of Compositor word) (length script.compositor) compositors) refl)
+    (rw (word_back word, eq-eqb (letters_of Main word) (length script.main) mains, eq-eqb (letters_of Compositor word) (length script.compositor) compositors) refl)
 
 -- a line of one field that leads from stage to stage
 stage_leads : (from to : ScriptState) (first : List ℕ) (others : List (List ℕ)) → AllByRecursion IsField (first ∷ others) → is_skipped (joined (first ∷ others)) ≡ false
     → at_stage from.stage from.script (joined (first ∷ others)) ≡ Ok to → TextLeads from (line (first ∷ others)) to
 stage_leads from to first others all says read = line_leads from to first others all (not_skipped from (joined (first ∷ others)) (Ok to) says read)
 
-header_leads : TextLeads beginning (line (codes "anim" ∷ codes "1" ∷ [])) (at AtMain empty_script)
+-- the header of a version is a line of two fields
+header_leads : (version : Version) → TextLeads beginning (line (header_text version ∷ [])) (at AtMain (with_version empty_script version))
 unfolding at_stage are_within
-header_leads = stage_leads beginning (at AtMain empty_script) (codes "anim") (codes "1" ∷ []) (text_field (codes "anim") refl, (text_field (codes "1") refl, tt)) refl refl
+header_leads One = stage_leads beginning (at AtMain empty_script) (codes "anim") (codes "1" ∷ []) (text_field (codes "anim") refl, (text_field (codes "1") refl, tt)) refl refl
 
-main_part_leads : TextLeads (at AtMain empty_script) (line (codes "main" ∷ [])) (at InMain empty_script)
+main_part_leads : (script : ScriptLists) → TextLeads (at AtMain script) (line (codes "main" ∷ [])) (at InMain script)
 unfolding at_stage are_within
-main_part_leads = stage_leads (at AtMain empty_script) (at InMain empty_script) (codes "main") [] (text_field (codes "main") refl, tt) refl refl
+main_part_leads script = stage_leads (at AtMain script) (at InMain script) (codes "main") [] (text_field (codes "main") refl, tt) refl refl
 
 compositor_part_leads : (script : ScriptLists) → TextLeads (at InMain script) (line (codes "compositor" ∷ [])) (at InCompositor script)
 unfolding at_stage are_within
@@ -197,11 +188,12 @@ end_leads script = stage_leads (at AtEnd script) (at Ended script) (codes "end")
 script_leads : (script : ScriptLists) → IsWellFormed script → TextLeads beginning (script_text script) (at Ended script)
 unfolding script_text
 script_leads script fits =
-    let of_main : ScriptLists = with_main empty_script script.main in
+    let of_version : ScriptLists = with_version empty_script script.version in
+    let of_main : ScriptLists = with_main of_version script.main in
     let of_both : ScriptLists = with_compositor of_main script.compositor in
     let may : MayFollow (book_of script.main).elements_added [] script.compositor = record { order = fits.order; times = fits.times; frames = rw (zero-add (length (ticks_of script.compositor))) fits.frames } in
-    let a = then_leads beginning (at AtMain empty_script) (at InMain empty_script) _ _ header_leads main_part_leads in
-    let b = then_leads beginning (at InMain empty_script) (at InMain of_main) _ (flat_map step_lines script.main) a (main_leads empty_script [] script.main fits.ranges fits.edits fits.main_steps) in
+    let a = then_leads beginning (at AtMain of_version) (at InMain of_version) _ _ (header_leads script.version) (main_part_leads of_version) in
+    let b = then_leads beginning (at InMain of_version) (at InMain of_main) _ (flat_map step_lines script.main) a (main_leads of_version [] script.main fits.ranges fits.edits fits.main_steps) in
     let c = then_leads beginning (at InMain of_main) (at InCompositor of_main) _ _ b (compositor_part_leads of_main) in
     let d = then_leads beginning (at InCompositor of_main) (at InCompositor of_both) _ (flat_map compositor_line script.compositor) c (compositor_leads of_main [] script.compositor may fits.compositor_steps) in
     let e = then_leads beginning (at InCompositor of_both) (at AtEnd script) _ _ d (word_leads of_both script.word fits.word.of_main fits.word.of_compositor) in

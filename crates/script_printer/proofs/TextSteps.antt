@@ -1,24 +1,14 @@
 -- The text of one more of a list, and of a model's line in pieces.
-use Rattle.std.proofs.Common.{◌≡◌, ℕ, ◌+◌, List, [], ◌∷◌, ◌++◌, map, take, Some, refl, ap, sym, ◌∙◌, append_assoc}
+use Rattle.std.proofs.Common.{◌≡◌, ℕ, List, [], ◌∷◌, ◌++◌, map, refl, ap, sym, ◌∙◌, append_assoc}
 use Rattle.std.specs.Prelude.{codes}
 use Rattle.std.specs.Fmt.{decimal}
-use Rattle.std.specs.List.{flat_map, slice_get}
-use Rattle.std.proofs.lemmas.List.{flat_map_more, take_more}
-use Rattle.std.proofs.lemmas.Option.{slice_get_within, get_or_from_slice_get}
+use Rattle.std.specs.List.{flat_map}
 use Rattle.anim_delegate.specs.declared.policy.Policy.{Policy}
 use Rattle.micro_time.specs.Timings.{TimingParts}
 use Rattle.keyframe_model.specs.Models.{Spec, PropertyCurve, property_of_curve}
 use Rattle.script_fields.specs.Fields.{further_fields, joined}
 use Rattle.script_fields.specs.Printed.{property_text, start_text}
 use Rattle.frame_script.specs.Printing.{names_fields, timing_fields, end_fields, model_fields, key_lines, model_lines}
-
-take-read : {A : Type 0} (xs : List A) (i : ℕ) (x : A) → slice_get xs i ≡ Some x → take (i + 1) xs ≡ take i xs ++ x ∷ []
-take-read xs i x e =
-    take_more xs i x (slice_get_within xs i x e) ∙ ap (λ y. take i xs ++ y ∷ []) (get_or_from_slice_get xs i x x e)
-
-pub one_more : {A : Type 0} (f : A → List ℕ) (before : List ℕ) (xs : List A) (i : ℕ) (x : A) → slice_get xs i ≡ Some x
-    → (before ++ flat_map f (take i xs)) ++ f x ≡ before ++ flat_map f (take (i + 1) xs)
-one_more f before xs i x e = flat_map_more f before (take i xs) x ∙ ap (λ read. before ++ flat_map f read) (sym (take-read xs i x e))
 
 pub flat_map-map : {A B : Type 0} (f : B → List ℕ) (g : A → B) (xs : List A) → flat_map f (map g xs) ≡ flat_map (λ x. f (g x)) xs
 flat_map-map f g [] = refl

@@ -1,7 +1,7 @@
 //! Laws of the printed text: each function's clauses are one, and its body does nothing.
 
 ghost use Rattle.std.specs.Prelude.{◌≡◌, ◌≤◌, length, Ok};
-ghost use Rattle.tree_commit.specs.Scripts.{ScriptLists, IsWellFormed};
+ghost use Rattle.run_rules.specs.Scripts.{ScriptLists, IsWellFormed};
 ghost use Rattle.frame_script.specs.declared.TheConstants.{MOST_BYTES};
 ghost use Rattle.frame_script.specs.Printing.{script_text};
 ghost use Rattle.frame_script.specs.Reading.{reading};

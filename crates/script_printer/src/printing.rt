@@ -3,27 +3,31 @@
 ghost use Rattle.std.specs.Prelude.{◌≡◌, ◌++◌, ◌∷◌, [], map, IfOk, OnOk, codes, string_bytes};
 ghost use Rattle.std.specs.List.{flat_map};
 ghost use Rattle.std.specs.Fmt.{decimal, signed_decimal};
-ghost use Rattle.keyframe_model.specs.Views.{curve_of};
+ghost use Rattle.keyframe_model.specs.Models.{TransformValue};
+ghost use Rattle.keyframe_model.specs.Views.{curve_of, shared_value_of};
 ghost use Rattle.script_fields.specs.Fields.{further_fields, joined};
 ghost use Rattle.script_fields.specs.Printed.{direction_text, fill_text, iterations_text, list_fields, word_text};
-ghost use Rattle.tree_commit.specs.Views.{change_of, look_of, step_of};
-ghost use Rattle.tree_commit.specs.Edits.{AddElement, RemoveElement, SetTransform};
+ghost use Rattle.tree_commit.specs.Views.{change_of, look_of};
+ghost use Rattle.run_rules.specs.Views.{step_of};
+ghost use Rattle.tree_commit.specs.Edits.{OnElements, AddElement, RemoveElement, SetOwn};
+ghost use Rattle.frame_script.specs.Headers.{header_text};
 ghost use Rattle.frame_script.specs.Printing as text;
 
 use anim_delegate::Policy;
-use anim_names::Lane;
+use anim_names::{Lane, Version};
 use curve_keys::{Curve, Key};
 use easing_fixed::Easing;
 use frame_script::Script;
-use keyframe_model::{CurveOf, ModelSpec};
+use keyframe_model::{CurveOf, ModelSpec, SharedValue};
 use micro_time::Timing;
+use run_rules::{CompositorStep, MainStep};
 use script_fields::printed::{
     direction_text, fill_text, policy_text, print_easing, print_iterations, print_list,
     print_start, print_word, property_text,
 };
 use std::alloc::{AllocError, Global};
 use transform_ops::TransformList;
-use tree_commit::{Base, CompositorStep, Edit, MainStep};
+use tree_commit::{Base, Edit};
 use value_blend::Opacity;
 
 /// The text of a script, in the one way in which it is printed. A keyword of an easing is printed as what it stands
@@ -33,12 +37,21 @@ pub fn print_script(alloc: Global, script: &Script) -> Result<Vec<u8>, AllocErro
     ensures { IfOk result (λ bytes. bytes.items ≡ text.script_text script.now) }
 {
     let mut out = String::new(alloc);
-    out.push_str("anim 1\nmain\n")?;
+    print_header(&mut out, script.version())?;
     print_steps(&mut out, script.main())?;
     out.push_str("compositor\n")?;
     print_compositor(&mut out, script.compositor())?;
     print_end(&mut out, script.word())?;
     Ok(out.into_bytes())
+}
+
+fn print_header(out: &mut String, version: Version) -> Result<(), AllocError>
+    ensures { OnOk result (string_bytes out.new ≡ string_bytes out.old
+        ++ (text.line (header_text version ∷ []) ++ text.line (codes "main" ∷ []))) }
+{
+    match version {
+        Version::One => out.push_str("anim 1\nmain\n"),
+    }
 }
 
 fn print_end(out: &mut String, word: &[Lane]) -> Result<(), AllocError>
@@ -84,10 +97,7 @@ fn print_edit(out: &mut String, edit: &Edit) -> Result<(), AllocError>
     match edit {
         Edit::AddElement { id, base } => print_element(out, id.0, base),
         Edit::RemoveElement { id } => print_drop_element(out, id.0),
-        Edit::SetOpacity { id, opacity } => {
-            print_pair(out, "opacity", id.0, u64::from(opacity.get()))
-        }
-        Edit::SetTransform { id, transform } => print_transform(out, id.0, transform),
+        Edit::SetOwn { id, value } => print_own(out, id.0, value),
         Edit::AddTimeline { id, timeline } => print_pair(out, "timeline", id.0, timeline.zero()),
         Edit::AddModel { spec } => print_model(out, spec),
         Edit::RemoveModel { id } => print_id(out, "drop-model", id.0),
@@ -96,7 +106,7 @@ fn print_edit(out: &mut String, edit: &Edit) -> Result<(), AllocError>
 
 #[tactic(auto, unfolding(frame_script::specs::Printing::edit_lines))]
 fn print_drop_element(out: &mut String, id: u32) -> Result<(), AllocError>
-    ensures { OnOk result (string_bytes out.new ≡ string_bytes out.old ++ text.edit_lines (RemoveElement id)) }
+    ensures { OnOk result (string_bytes out.new ≡ string_bytes out.old ++ text.edit_lines (OnElements (RemoveElement id))) }
 {
     print_id(out, "drop-element", id)
 }
@@ -115,16 +125,29 @@ fn print_pair(out: &mut String, name: &str, id: u32, value: u64) -> Result<(), A
 
 #[tactic(auto, unfolding(frame_script::specs::Printing::edit_lines))]
 fn print_element(out: &mut String, id: u32, base: &Base) -> Result<(), AllocError>
-    ensures { OnOk result (string_bytes out.new ≡ string_bytes out.old ++ text.edit_lines (AddElement id (look_of base.now))) }
+    ensures { OnOk result (string_bytes out.new ≡ string_bytes out.old ++ text.edit_lines (OnElements (AddElement id (look_of base.now)))) }
 {
     write!(out, "element {id} {} ", base.opacity.get())?;
     print_list(out, &base.transform)?;
     out.push('\n')
 }
 
+// An element's own value, behind the name of its property.
+#[tactic(auto, unfolding(frame_script::specs::Printing::edit_lines))]
+fn print_own(out: &mut String, id: u32, value: &SharedValue) -> Result<(), AllocError>
+    ensures { OnOk result (string_bytes out.new ≡ string_bytes out.old ++ text.edit_lines (OnElements (SetOwn id (shared_value_of value.now)))) }
+{
+    match value {
+        SharedValue::Opacity(opacity) => {
+            print_pair(out, "opacity", id, u64::from(opacity.get()))
+        }
+        SharedValue::Transform(transform) => print_transform(out, id, transform),
+    }
+}
+
 #[tactic(auto, unfolding(frame_script::specs::Printing::edit_lines))]
 fn print_transform(out: &mut String, id: u32, transform: &TransformList) -> Result<(), AllocError>
-    ensures { OnOk result (string_bytes out.new ≡ string_bytes out.old ++ text.edit_lines (SetTransform id transform.now)) }
+    ensures { OnOk result (string_bytes out.new ≡ string_bytes out.old ++ text.edit_lines (OnElements (SetOwn id (TransformValue transform.now)))) }
 {
     write!(out, "transform {id} ")?;
     print_list(out, transform)?;

@@ -2,14 +2,20 @@
 use Rattle.std.proofs.Common.{◌≡◌, ℕ, ◌+◌, ◌<◌, ◌≤◌, List, [], ◌∷◌, length, Result, Ok, Err, refl, ap, sym, ◌∙◌}
 use Rattle.std.specs.Prelude.{IfOk, IfErr}
 use Rattle.std.proofs.lemmas.Bool.{le-ltb, lt-ltb}
-use Rattle.tree_commit.specs.Scripts.{ScriptLists, IsWellFormed}
+use Rattle.run_rules.specs.Scripts.{StepOfMain, ScriptLists, IsWellFormed}
 use Rattle.frame_script.specs.declared.TheConstants.{MOST_BYTES}
 use Rattle.frame_script.specs.declared.cause.Cause.TheVariants.{TooLong}
 use Rattle.frame_script.specs.declared.fault.ScriptFault.{ScriptFault}
 use Rattle.frame_script.specs.declared.fault.ScriptFault.TheVariants as fault
+use Rattle.frame_script.specs.declared.cause.Cause.{Cause}
+use Rattle.script_fields.specs.Fields.{◌>>=◌}
+use Rattle.std.specs.Prelude.{if◌then◌else◌, codes, true, false}
+use Rattle.std.specs.Str.{bytes_eq}
+use Rattle.frame_script.specs.declared.model_line.ModelLine.{ModelLine}
+use Rattle.frame_script.specs.Said.{SaysModel, SaysStep, model_said, step_said}
 use Rattle.frame_script.specs.Causes.{Refusal}
 use Rattle.frame_script.specs.Lines.{lines}
-use Rattle.frame_script.specs.States.{Stage, Ended, ScriptState, beginning, after_line}
+use Rattle.frame_script.specs.States.{Stage, Ended, ScriptState, beginning, in_main, model_begun, step_made, main_made, after_line}
 use Rattle.frame_script.specs.Texts.{IsWhy}
 use Rattle.frame_script.specs.Reading.{refusal, numbered, end_at, reading_from, reading, FailsAs, GivesScript}
 use Rattle.frame_script.proofs.Leads.{read_is_spelled, read_is_refused}
@@ -72,3 +78,31 @@ given_spelled bytes (Err fault) gives = tt
 pub given_refused : (bytes : List ℕ) (result : Result ScriptLists ScriptFault) → GivesScript (λ script. script) result (reading bytes) → IfErr result (IsWhy bytes)
 given_refused bytes (Ok script) gives = tt
 given_refused bytes (Err fault) gives = why bytes fault gives
+
+-- a step that is said is made
+
+-- a step that is said leads to the step that is made
+said_is_made : (script : ScriptLists) (said : Result StepOfMain Cause) → ((said >>= λ step. Ok (SaysStep step)) >>= main_made script) ≡ (said >>= step_made script)
+said_is_made script (Ok step) = refl
+said_is_made script (Err cause) = refl
+
+-- a model that is said is begun
+said_is_begun : (script : ScriptLists) (said : Result ModelLine Cause) → ((said >>= λ line. Ok (SaysModel line)) >>= main_made script) ≡ (said >>= model_begun script)
+said_is_begun script (Ok line) = refl
+said_is_begun script (Err cause) = refl
+
+-- a line of main that begins with another word than a model's says a step
+pub step_is_read : (script : ScriptLists) (name : List ℕ) (fields : List (List ℕ)) → bytes_eq name (codes "model") ≡ false
+    → in_main script (name ∷ fields) ≡ (step_said script.version name fields >>= step_made script)
+unfolding in_main
+step_is_read script name fields other =
+    ap (λ b. (if b then (model_said fields >>= λ line. Ok (SaysModel line)) else (step_said script.version name fields >>= λ step. Ok (SaysStep step))) >>= main_made script) other
+    ∙ said_is_made script (step_said script.version name fields)
+
+-- and one that begins so begins a model
+pub model_is_read : (script : ScriptLists) (name : List ℕ) (fields : List (List ℕ)) → bytes_eq name (codes "model") ≡ true
+    → in_main script (name ∷ fields) ≡ (model_said fields >>= model_begun script)
+unfolding in_main
+model_is_read script name fields its =
+    ap (λ b. (if b then (model_said fields >>= λ line. Ok (SaysModel line)) else (step_said script.version name fields >>= λ step. Ok (SaysStep step))) >>= main_made script) its
+    ∙ said_is_begun script (model_said fields)

@@ -28,5 +28,5 @@ stage_with stage (Some d) = InModel d.line (keys_of d.keys)
 abbrev pub state_of : Reader → ScriptState
 state_of reader = record {
   stage = stage_with reader.stage reader.draft;
-  script = record { main = reader.main; compositor = reader.compositor; word = reader.word.items };
+  script = record { version = reader.version; main = reader.main; compositor = reader.compositor; word = reader.word.items };
 }

@@ -1,6 +1,9 @@
+//! The compositor's part of a script as it is read: the next step is judged by the last tick and by the counts of
+//! steps and frames.
+
 ghost use Rattle.std.specs.Prelude.{◌≡◌, ◌+◌, ◌≤◌, [], length};
 ghost use Rattle.anim_names.specs.declared.limit.TheConstants.{MOST_STEPS};
-ghost use Rattle.tree_commit.specs.Scripts.{ticks_of};
+ghost use Rattle.run_rules.specs.Scripts.{ticks_of};
 ghost use Rattle.frame_script.specs.Causes.{allow};
 ghost use Rattle.script_lines.specs.LineFaults.{Gives};
 ghost use Rattle.frame_script.specs.States.{compositor_with, compositor_refusal, tick_refusal, are_too_many};
@@ -8,10 +11,11 @@ ghost use Rattle.frame_script.specs.States.{compositor_with, compositor_refusal,
 use anim_names::LimitName;
 use anim_names::limit::{MOST_FRAMES, MOST_STEPS};
 use frame_script::Cause;
+use run_rules::CompositorStep;
 use script_lines::LineFault;
 use std::alloc::Global;
 use std::marker::Model;
-use tree_commit::{CompositorStep, EditRefusal};
+use tree_commit::EditRefusal;
 
 /// The steps of the compositor so far, and of their ticks how many there are and which is the last: no further step
 /// looks at those before it.
@@ -27,8 +31,8 @@ pub(crate) struct CompositorPart {
 impl Model for CompositorPart {
     ghost use Rattle.std.specs.Prelude.{◌≡◌, ◌≤◌, List, length};
     ghost use Rattle.anim_names.specs.declared.limit.TheConstants.{MOST_STEPS};
-    ghost use Rattle.tree_commit.specs.declared.runs.compositor_step.CompositorStep.{CompositorStep};
-    ghost use Rattle.tree_commit.specs.Scripts.{ticks_of};
+    ghost use Rattle.run_rules.specs.declared.compositor_step.CompositorStep.{CompositorStep};
+    ghost use Rattle.run_rules.specs.Scripts.{ticks_of};
     ghost use Rattle.frame_script.specs.States.{last_from};
 
     ghost Value = { List CompositorStep };

@@ -1,3 +1,6 @@
+//! A model while its keys are being read, whichever property it animates. It becomes a model once all its keys were
+//! read.
+
 ghost use Rattle.std.specs.Prelude.{◌≤◌};
 ghost use Rattle.std.specs.Option.{ForSome};
 ghost use Rattle.anim_timeline.specs.declared.TheConstants.{LAST_TIME};
@@ -28,7 +31,7 @@ pub(crate) struct Draft {
 }
 
 impl Draft {
-    ghost use Rattle.std.specs.Prelude.{◌≡◌, ◌==◌, map, OnOk};
+    ghost use Rattle.std.specs.Prelude.{◌≡◌, ◌==◌, map};
     ghost use Rattle.script_lines.specs.LineFaults.{Gives};
     ghost use Rattle.frame_script.specs.States.{no_keys, keys_with, key_count, model_through};
     ghost use Rattle.script_reader.specs.Views.{keys_of};

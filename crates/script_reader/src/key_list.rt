@@ -1,3 +1,5 @@
+//! The keys of one curve as they are read, each judged by the time of the key before it.
+
 ghost use Rattle.std.specs.Prelude.{◌≡◌, ◌≤◌, [], length, map, IfOk};
 ghost use Rattle.curve_keys.specs.Curves.{duration_of};
 ghost use Rattle.micro_time.specs.declared.TheConstants.{LONGEST_DURATION};

@@ -1,3 +1,5 @@
+//! Cutting a text into its lines, and which lines are skipped as empty or as comments.
+
 ghost use Rattle.std.specs.Prelude.{◌≡◌, ◌+◌, ◌<◌, ◌≤◌, ◌==◌, ◌∷◌, [], length, position, MatchOption};
 ghost use Rattle.std.specs.List.{position_or_len};
 ghost use Rattle.frame_script.specs.Lines.{lines, is_skipped};

@@ -1,18 +1,21 @@
-ghost use Rattle.std.specs.Prelude.{◌≡◌, ◌≤◌, [], None, length, map, IfOk, OnOk, OnErr};
-ghost use Rattle.script_reader.specs.Books.{elements_of};
-ghost use Rattle.tree_commit.specs.Scripts.{EditStep, CommitStep, book_of, book_after_step};
-ghost use Rattle.tree_commit.specs.Views.{change_of, step_of};
+//! Main's part of a script as it is read: its steps, and the book of edits by which the next one is judged.
+
+ghost use Rattle.std.specs.Prelude.{◌≡◌, [], None, length, map, IfOk, OnOk, OnErr};
+ghost use Rattle.run_rules.specs.Scripts.{EditStep, CommitStep, book_of, book_after_step};
+ghost use Rattle.tree_commit.specs.Views.{change_of};
+ghost use Rattle.run_rules.specs.Views.{step_of};
 ghost use Rattle.frame_script.specs.Causes.{demand, allow};
 ghost use Rattle.script_lines.specs.LineFaults.{Gives};
-ghost use Rattle.frame_script.specs.States.{has_room, main_with, model_allowed, names_refusal, step_refusal};
+ghost use Rattle.frame_script.specs.States.{has_room, main_with, model_allowed, step_refusal};
 
 use anim_names::LimitName;
 use anim_names::limit::{MOST_COMMITS, MOST_STEPS};
 use frame_script::{Cause, ModelNames};
+use run_rules::MainStep;
 use script_lines::LineFault;
 use std::alloc::{AllocError, Global};
 use std::marker::Model;
-use tree_commit::{Edit, EditBook, EditRefusal, MainStep};
+use tree_commit::{Edit, EditBook, EditRefusal};
 
 /// The steps of main so far, and the book of their edits: each further step is checked in the time that it takes to
 /// look up a few ids, however many there are.
@@ -21,7 +24,6 @@ use tree_commit::{Edit, EditBook, EditRefusal, MainStep};
 pub(crate) struct MainPart {
     steps: Vec<MainStep>,
     book: EditBook,
-    elements: u32,
 }
 
 impl Drop for MainPart {
@@ -29,24 +31,20 @@ impl Drop for MainPart {
         let MainPart {
             steps: _steps,
             book: _book,
-            elements: _,
         } = self;
     }
 }
 
 impl Model for MainPart {
-    ghost use Rattle.std.specs.Prelude.{◌≡◌, ◌≤◌, List, map};
-    ghost use Rattle.anim_names.specs.declared.limit.TheConstants.{MOST_ELEMENTS};
-    ghost use Rattle.tree_commit.specs.Scripts.{StepOfMain, book_of};
-    ghost use Rattle.tree_commit.specs.Views.{step_of};
+    ghost use Rattle.std.specs.Prelude.{◌≡◌, List, map};
+    ghost use Rattle.run_rules.specs.Scripts.{StepOfMain, book_of};
+    ghost use Rattle.run_rules.specs.Views.{step_of};
 
     ghost Value = { List StepOfMain };
 
     ghost view = { λ p. map step_of p.steps.items };
 
-    ghost invariant = { λ p.
-        (p.book ≡ book_of (map step_of p.steps.items)) × (p.elements ≡ p.book.elements_added)
-        × (p.elements ≤ MOST_ELEMENTS) };
+    ghost invariant = { λ p. p.book ≡ book_of (map step_of p.steps.items) };
 }
 
 impl MainPart {
@@ -57,7 +55,6 @@ impl MainPart {
         Ok(MainPart {
             steps: Vec::new(alloc),
             book: EditBook::new(alloc)?,
-            elements: 0,
         })
     }
 
@@ -65,7 +62,7 @@ impl MainPart {
     pub(crate) fn elements_added(&self) -> u32
         ensures { result ≡ (book_of self.now).elements_added }
     {
-        self.elements
+        self.book.elements_added()
     }
 
     /// How many steps there are.
@@ -84,7 +81,6 @@ impl MainPart {
         self.check_step(&step)?;
         self.steps.reserve(1)?;
         note(&mut self.book, &step)?;
-        self.elements += elements_of(&step);
         self.steps.push(step).unwrap();
         Ok(())
     }
@@ -151,11 +147,7 @@ impl MainPart {
     pub(crate) fn into_steps(self) -> Vec<MainStep>
         ensures { map step_of result.items ≡ self }
     {
-        let MainPart {
-            steps,
-            book: _book,
-            elements: _,
-        } = self;
+        let MainPart { steps, book: _book } = self;
         steps
     }
 }
@@ -174,16 +166,5 @@ fn note(book: &mut EditBook, step: &MainStep) -> Result<(), AllocError>
             Ok(())
         }
         MainStep::Drain => Ok(()),
-    }
-}
-
-// How many elements a step adds.
-fn elements_of(step: &MainStep) -> u32
-    ensures value { result ≡ elements_of (step_of step.now) }
-    ensures small { result ≤ 1 }
-{
-    match step {
-        MainStep::Edit(Edit::AddElement { .. }) => 1,
-        MainStep::Edit(_) | MainStep::Commit | MainStep::Drain => 0,
     }
 }

@@ -1,25 +1,26 @@
 //! What is read of a script between two lines.
 
-ghost use Rattle.std.specs.Prelude.{◌≡◌, None, map, IfOk};
+ghost use Rattle.std.specs.Prelude.{◌≡◌, ◌∷◌, None, map, IfOk};
 ghost use Rattle.script_fields.specs.Fields.{fields};
 ghost use Rattle.script_lines.specs.LineFaults.{Gives, read_then};
 ghost use Rattle.frame_script.specs.Said.{step_said, model_said, compositor_said, word_said};
 ghost use Rattle.frame_script.specs.Reading.{GivesScript, numbered, end_at};
 ghost use Rattle.frame_script.specs.States as state;
-ghost use Rattle.tree_commit.specs.Scripts.{IsWellFormed};
+ghost use Rattle.run_rules.specs.Scripts.{IsWellFormed};
 ghost use Rattle.script_reader.specs.Views.{keys_of, stage_of, state_of};
 
 use crate::compositor_part::CompositorPart;
 use crate::draft::Draft;
 use crate::lines::is_skipped;
 use crate::main_part::MainPart;
-use anim_names::Lane;
+use anim_names::{Lane, Version};
 use frame_script::{Cause, Script, ScriptFault, is_word_of};
+use run_rules::MainStep;
 use script_fields::{fields_into, is};
-use script_lines::{LineFault, compositor_said, model_said, step_said, word_said};
+use script_lines::{LineFault, compositor_said, header_said, model_said, step_said, word_said};
 use std::alloc::{AllocError, Global};
 use std::sync::Arc;
-use tree_commit::{Edit, MainStep};
+use tree_commit::Edit;
 
 /// Which line may stand next, where that is no key.
 #[derive(Clone, Copy)]
@@ -34,6 +35,8 @@ pub(crate) enum ReaderStage {
 
 /// The script so far, and which line may stand next.
 pub(crate) struct Reader {
+    /// What the header said, once it was read.
+    pub(crate) version: Version,
     pub(crate) stage: ReaderStage,
     /// The model to which the next line is to add a key.
     pub(crate) draft: Option<Draft>,
@@ -45,6 +48,7 @@ pub(crate) struct Reader {
 impl Drop for Reader {
     fn drop(self) {
         let Reader {
+            version: _,
             stage: _,
             draft: _draft,
             main: _main,
@@ -60,6 +64,7 @@ impl Reader {
         ensures { IfOk result (λ reader. state_of reader ≡ state.beginning) }
     {
         Ok(Reader {
+            version: Version::One,
             stage: ReaderStage::Header,
             draft: None,
             main: MainPart::new(alloc)?,
@@ -95,12 +100,7 @@ impl Reader {
         ensures { Gives (λ _. state_of self.new) result (state.at_stage (stage_of self.old.stage) (state_of self.old).script line.now) }
     {
         match self.stage {
-            ReaderStage::Header => self.take_only(
-                "anim 1",
-                Cause::BadHeader,
-                ReaderStage::MainPart,
-                line,
-            ),
+            ReaderStage::Header => self.take_header(line),
             ReaderStage::MainPart => self.take_only(
                 "main",
                 Cause::BadLine,
@@ -112,6 +112,18 @@ impl Reader {
             ReaderStage::End => self.take_only("end", Cause::BadLine, ReaderStage::Nothing, line),
             ReaderStage::Nothing => Err(LineFault::Refused(Cause::BadLine)),
         }
+    }
+
+    // The header of a version leads to main's part.
+    #[tactic(auto, unfolding(frame_script::specs::States::at_stage))]
+    fn take_header(&mut self, line: &[u8]) -> Result<(), LineFault>
+        requires { self.old.draft ≡ None }
+        ensures { Gives (λ _. state_of self.new) result (state.at_stage state.AtHeader (state_of self.old).script line.now) }
+    {
+        let version = header_said(line).ok_or(Cause::BadHeader)?;
+        self.version = version;
+        self.stage = ReaderStage::MainPart;
+        Ok(())
     }
 
     // Exactly this line leads to the stage.
@@ -159,9 +171,22 @@ impl Reader {
             (state.in_main (state_of self.old).script (map (λ field. field.now) fields.now)) }
     {
         match fields {
-            [name, more @ ..] if is(name, "model") => self.begin_model(alloc, more),
-            [name, more @ ..] => self.take_step(alloc, name, more),
+            [name, more @ ..] => self.take_named(alloc, name, more),
             _ => Err(LineFault::Refused(Cause::BadLine)),
+        }
+    }
+
+    // A line of main by its first field.
+    fn take_named(&mut self, alloc: Global, name: &[u8], fields: &[&[u8]]) -> Result<(), LineFault>
+        requires draft { self.old.draft ≡ None }
+        requires stage { self.old.stage ≡ ReaderStage.MainLines }
+        ensures { Gives (λ _. state_of self.new) result
+            (state.in_main (state_of self.old).script (name.now ∷ map (λ field. field.now) fields.now)) }
+    {
+        if is(name, "model") {
+            self.begin_model(alloc, fields)
+        } else {
+            self.take_step(alloc, name, fields)
         }
     }
 
@@ -170,9 +195,9 @@ impl Reader {
         requires draft { self.old.draft ≡ None }
         requires stage { self.old.stage ≡ ReaderStage.MainLines }
         ensures { Gives (λ _. state_of self.new) result
-            (read_then (step_said name.now (map (λ field. field.now) fields.now)) (state.step_made (state_of self.old).script)) }
+            (read_then (step_said (state_of self.old).script.version name.now (map (λ field. field.now) fields.now)) (state.step_made (state_of self.old).script)) }
     {
-        let step = match step_said(alloc, name, fields) {
+        let step = match step_said(alloc, self.version, name, fields) {
             Ok(step) => step,
             Err(fault) => return Err(fault),
         };
@@ -267,9 +292,9 @@ impl Reader {
         requires draft { self.old.draft ≡ None }
         requires stage { self.old.stage ≡ ReaderStage.CompositorLines }
         ensures { Gives (λ _. state_of self.new) result
-            (read_then (compositor_said name.now (map (λ field. field.now) fields.now)) (state.compositor_made (state_of self.old).script)) }
+            (read_then (compositor_said (state_of self.old).script.version name.now (map (λ field. field.now) fields.now)) (state.compositor_made (state_of self.old).script)) }
     {
-        let step = compositor_said(name, fields)?;
+        let step = compositor_said(self.version, name, fields)?;
         self.compositor.push(self.main.elements_added(), step)
     }
 
@@ -319,6 +344,7 @@ impl Reader {
         ensures { GivesScript (λ script. script) result (end_at number (state_of self).stage (state_of self).script) }
     {
         let Reader {
+            version,
             stage,
             draft,
             main,
@@ -327,7 +353,7 @@ impl Reader {
         } = self;
         match (draft, stage) {
             (None, ReaderStage::Nothing) => {
-                Ok(Script::new(main.into_steps(), compositor.into_steps(), word))
+                Ok(Script::new(version, main.into_steps(), compositor.into_steps(), word))
             }
             _ => Err(ScriptFault::Refused {
                 line: number,

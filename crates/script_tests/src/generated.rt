@@ -1,10 +1,10 @@
 //! Scripts that are made from a number, and how they are printed.
 
-use crate::scripts::REVERSED;
 use anim_names::Lane;
 use script_gen::{MOST_GENERATED, generate};
 use script_printer::print_script;
 use std::test::Fail;
+use test_scripts::REVERSED;
 
 // Lines of the script made from 8, by their numbers.
 const OF_EIGHT: [(usize, &str); 15] = [

@@ -1,19 +1,24 @@
 //! What a line says by its fields.
 
+use crate::fields::fields_of;
 use anim_delegate::Policy;
-use anim_names::{ElementId, Lane, ModelId, Property};
+use anim_names::{ElementId, Lane, ModelId, Property, Version};
 use frame_script::Cause;
-use script_fields::fields_of;
+use keyframe_model::SharedValue;
+use run_rules::{CompositorStep, MainStep};
 use script_lines::{LineFault, compositor_said, key_said, model_said, step_said, word_said};
 use std::test::Fail;
-use tree_commit::{CompositorStep, Edit, MainStep};
+use tree_commit::Edit;
 use value_blend::Opacity;
 
 #[test]
 fn a_step_of_main_is_read(rt: HostRuntime) -> Result<(), Fail> {
     let fields = fields_of(rt.alloc(), b"3 250000")?;
-    let step = step_said(rt.alloc(), b"opacity", &fields);
-    let Ok(MainStep::Edit(Edit::SetOpacity { id, opacity })) = &step else {
+    let step = step_said(rt.alloc(), Version::One, b"opacity", &fields);
+    let Ok(MainStep::Edit(Edit::SetOwn { id, value })) = &step else {
+        return Err(Fail::from("no value is set"));
+    };
+    let SharedValue::Opacity(opacity) = value else {
         return Err(Fail::from("no opacity is set"));
     };
     assert!(rt; *id == ElementId(3));
@@ -22,11 +27,21 @@ fn a_step_of_main_is_read(rt: HostRuntime) -> Result<(), Fail> {
 }
 
 #[test]
+fn a_list_has_eight_operations_at_most(rt: HostRuntime) -> Result<(), Fail> {
+    let line =
+        b"7 skew:1:2 skew:1:2 skew:1:2 skew:1:2 skew:1:2 skew:1:2 skew:1:2 skew:1:2 skew:1:2";
+    let fields = fields_of(rt.alloc(), line)?;
+    let step = step_said(rt.alloc(), Version::One, b"transform", &fields);
+    assert!(rt; matches!(&step, Err(LineFault::Refused(Cause::BadLine))));
+    Ok(())
+}
+
+#[test]
 fn a_step_of_the_compositor_is_read(rt: HostRuntime) -> Result<(), Fail> {
     let fields = fields_of(rt.alloc(), b"16000")?;
-    let tick = compositor_said(b"tick", &fields);
+    let tick = compositor_said(Version::One, b"tick", &fields);
     assert!(rt; matches!(tick, Ok(CompositorStep::Tick(16_000))));
-    let pull = compositor_said(b"pull", &fields);
+    let pull = compositor_said(Version::One, b"pull", &fields);
     assert!(rt; matches!(pull, Err(LineFault::Refused(Cause::BadLine))));
     Ok(())
 }

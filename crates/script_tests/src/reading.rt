@@ -6,27 +6,8 @@ use script_reader::read_script;
 use std::alloc::{AllocError, Global};
 use std::process::Abort;
 use std::test::Fail;
+use test_scripts::{FADE, TWO_COMMITS};
 use tree_commit::EditRefusal;
-
-/// A fade of one element, line by line.
-const FADE: [&str; 16] = [
-    "anim 1",
-    "main",
-    "timeline 1 0",
-    "element 1 1000000 none",
-    "model 1 1 1 1 opacity - 0 1000 0 normal none 1000 auto linear 2",
-    "key 0 linear 0",
-    "key 1000000 linear 1000000",
-    "commit",
-    "compositor",
-    "pull",
-    "activate",
-    "tick 16000",
-    "tick 349333",
-    "tick 516000",
-    "word MMMMCCCCC",
-    "end",
-];
 
 /// The first lines of the fade up to a number, a text as often as it says, and the lines of the fade behind a number.
 #[derive(Clone, Copy)]
@@ -169,14 +150,14 @@ const REFUSED: &[(Change, u32, Cause)] = &[
 ];
 
 fn push_lines_before(out: &mut String, count: usize) -> Result<(), AllocError> {
-    for line in FADE.iter().take(count) {
+    for line in FADE.lines().take(count) {
         push_line(out, line)?;
     }
     Ok(())
 }
 
 fn push_lines_behind(out: &mut String, count: usize) -> Result<(), AllocError> {
-    for line in FADE.iter().skip(count) {
+    for line in FADE.lines().skip(count) {
         push_line(out, line)?;
     }
     Ok(())
@@ -233,7 +214,7 @@ fn commented(alloc: Global, count: usize) -> Result<String, AllocError> {
     for _ in 0..count {
         text.push('#')?;
     }
-    for line in FADE {
+    for line in FADE.lines() {
         text.push('\n')?;
         text.push_str(line)?;
     }
@@ -255,22 +236,6 @@ fn the_longest_script_is_read(rt: HostRuntime) -> Result<(), Fail> {
     assert!(rt; fault(rt.alloc(), text.as_bytes()) == long);
     Ok(())
 }
-
-/// Two elements, each in a commit of its own.
-const TWO_COMMITS: &str = "anim 1
-main
-element 1 100000 none
-commit
-element 2 200000 skew:1:2
-commit
-compositor
-pull
-activate
-tick 0
-tick 1000
-word MMMMCCCC
-end
-";
 
 const MAIN: Lane = Lane::Main;
 

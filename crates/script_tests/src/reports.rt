@@ -1,12 +1,13 @@
 //! Reports, and how they are printed.
 
 use anim_names::{AnimEvent, ElementId, GroupId, Lane, ModelId};
+use element_samples::{Frame, FrameRow};
 use frame_report::{Report, print_report, print_summary};
 use std::alloc::Global;
 use std::sync::Arc;
 use std::test::Fail;
 use transform_ops::{TransformList, TransformOp};
-use tree_commit::{Frame, FrameRow};
+use tree_commit::Base;
 use value_blend::Opacity;
 
 // An element that shows an operation of each kind.
@@ -28,16 +29,20 @@ fn moved_row(alloc: Global) -> Result<FrameRow, Fail> {
     ];
     Ok(FrameRow {
         element: ElementId(1),
-        opacity: Opacity::new(250_000).ok_or("no opacity")?,
-        transform: Arc::new(alloc, TransformList::new(alloc, &operations)?)?,
+        shown: Base {
+            opacity: Opacity::new(250_000).ok_or("no opacity")?,
+            transform: Arc::new(alloc, TransformList::new(alloc, &operations)?)?,
+        },
     })
 }
 
 fn still_row(alloc: Global) -> Result<FrameRow, Fail> {
     Ok(FrameRow {
         element: ElementId(u32::MAX),
-        opacity: Opacity::new(1_000_000).ok_or("no opacity")?,
-        transform: Arc::new(alloc, TransformList::new(alloc, &[])?)?,
+        shown: Base {
+            opacity: Opacity::new(1_000_000).ok_or("no opacity")?,
+            transform: Arc::new(alloc, TransformList::new(alloc, &[])?)?,
+        },
     })
 }
 

@@ -1,21 +1,24 @@
-ghost use Rattle.std.specs.Prelude.{◌≡◌, ◌⊎◌, ◌+◌, ◌<◌, ◌≤◌, ◌∷◌, [], ◌++◌, nat_lt, length, None, Some, IfOk, OnOk, OnErr, IsSomeAnd, option_map, is_some};
+//! The compositor's state in a run, with the calls of its steps: it pulls, activates, ticks, draws and sends. In
+//! which order is up to who runs the lanes.
+
+ghost use Rattle.std.specs.Prelude.{◌≡◌, ◌+◌, ◌<◌, ◌≤◌, None, Some, IfOk, option_map, is_some};
 ghost use Rattle.anim_host.specs.declared.TheConstants.{MOST_HOSTED};
-ghost use Rattle.anim_host.specs.Hosting.{HasRoomFor, after_activation, after_push, after_tick};
+ghost use Rattle.anim_host.specs.Hosting.{hosting_after_activation};
 ghost use Rattle.anim_timeline.specs.Timelines.{IsTime};
 ghost use Rattle.frame_exchange.specs.declared.board.PendingSlot.{PendingSlot};
 ghost use Rattle.frame_exchange.specs.Sides.{new_compositor, slot_of};
-ghost use Rattle.tree_commit.specs.Follows.{Follows};
-ghost use Rattle.tree_commit.specs.Frames.{LocalTimesFit, frame_at, shown_by};
+ghost use Rattle.run_rules.specs.Frames.{LocalTimesFit, frame_at, shown_by};
 
 use active_tree::ActiveTree;
 use anim_host::AnimHost;
 use easing_fixed::{EasingFunction, Evaluator};
+use element_samples::Frame;
 use frame_exchange::{Board, CompositorSteps, PendingSlot};
 use pending_tree::PendingTree;
 use std::alloc::{AllocError, Global};
 use std::marker::Model;
 use std::sync::Arc;
-use tree_commit::{Commit, Frame};
+use tree_commit::Commit;
 
 /// All that the compositor has of a run: the host of its animations, its two trees, and the commit that it has pulled.
 ///
@@ -83,20 +86,6 @@ impl<'e, E: EasingFunction> CompositorSide<'e, E> {
             evaluator,
         })
     }
-
-    /// The time of the last tick, in microseconds; 0 before any.
-    pub fn last_tick(&self) -> u64
-        ensures { result ≡ self.now.last_tick }
-    {
-        self.host.last_tick()
-    }
-
-    /// How many steps were made.
-    pub fn steps(&self) -> u32
-        ensures { result ≡ self.now.steps }
-    {
-        self.steps
-    }
 }
 
 impl<'e, E: EasingFunction> CompositorSteps for CompositorSide<'e, E> {
@@ -157,7 +146,7 @@ fn slot(pending: &PendingTree) -> PendingSlot
 fn make_active(host: &mut AnimHost, active: &mut ActiveTree, commit: Arc<Commit>)
     requires active { active.old ≡ host.old.active }
     requires pending { host.old.pending ≡ Some commit.value }
-    ensures host { host.new ≡ after_activation host.old commit.value }
+    ensures host { host.new ≡ hosting_after_activation host.old commit.value }
     ensures active { active.new ≡ commit.value }
 {
     host.activate(active.commit(), &commit);

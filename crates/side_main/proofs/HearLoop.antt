@@ -5,7 +5,7 @@ use Rattle.std.proofs.lemmas.List.{drop_all, drop_more}
 use Rattle.anim_names.specs.declared.event.AnimEvent.{AnimEvent}
 use Rattle.frame_exchange.specs.Sides.{retired_by}
 use Rattle.main_tree.specs.EditedTrees.{EditedTree, after_hearing}
-use Rattle.tree_commit.specs.Runs.{retires, tree_after_hearing}
+use Rattle.run_rules.specs.Runs.{retires, tree_after_hearing}
 use Rattle.tree_commit.specs.Trees.{TreeLists}
 
 -- the event at an index comes first of those from there on

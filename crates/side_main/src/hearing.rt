@@ -3,7 +3,7 @@
 ghost use Rattle.std.specs.Prelude.{◌≡◌, ◌≤◌, fold, if◌then◌else◌};
 ghost use Rattle.frame_exchange.specs.Sides.{retired_by};
 ghost use Rattle.main_tree.specs.EditedTrees.{after_hearing};
-ghost use Rattle.tree_commit.specs.Runs.{retires, tree_after_hearing};
+ghost use Rattle.run_rules.specs.Runs.{retires, tree_after_hearing};
 
 use anim_delegate::{Delegate, VerdictFunction};
 use anim_names::AnimEvent;

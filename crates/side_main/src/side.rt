@@ -1,3 +1,6 @@
+//! Main's state in a run, with the calls of its steps: it edits, commits, drains and hears. In which order is up to
+//! who runs the lanes.
+
 ghost use Rattle.std.specs.Prelude.{◌≡◌, ◌+◌, ◌<◌, ◌≤◌, ◌^◌, IfOk};
 ghost use Rattle.anim_names.specs.declared.limit.TheConstants.{MOST_STEPS};
 ghost use Rattle.frame_exchange.specs.Sides.{new_main};
@@ -83,13 +86,6 @@ impl<'d, F: VerdictFunction> MainSide<'d, F> {
             steps: 0,
             room: events,
         })
-    }
-
-    /// How many steps were made.
-    pub fn steps(&self) -> u32
-        ensures { result ≡ self.now.steps }
-    {
-        self.steps
     }
 }
 

@@ -4,9 +4,7 @@ use crate::calls::{
     Answer, call, call_plainly, expect_done, expect_number, expect_steady, replayed, steady_source,
     written,
 };
-use crate::texts::{
-    DROPPED, DROPPED_REPORT, EMPTY, EMPTY_REPORT, OF_ONE, REPORT, SCRIPT, with_line,
-};
+use crate::texts::{DROPPED_REPORT, EMPTY_REPORT, REPORT, with_line};
 use anim_top::Status;
 use edge_io::{IdleGate, SteadySink, SteadySource};
 use frame_script::Cause;
@@ -15,14 +13,15 @@ use std::process::Abort;
 use std::sync::Wait;
 use std::test::Fail;
 use std::thread::Threads;
+use test_scripts::{DROPPED_MODEL, FADE, NOTHING, REVERSED};
 use tree_commit::EditRefusal;
 
 #[test]
 fn scripts_are_replayed(rt: HostRuntime) -> Result<(), Fail> {
     for (script, report) in &[
-        (SCRIPT, REPORT),
-        (EMPTY, EMPTY_REPORT),
-        (DROPPED, DROPPED_REPORT),
+        (FADE, REPORT),
+        (NOTHING, EMPTY_REPORT),
+        (DROPPED_MODEL, DROPPED_REPORT),
     ] {
         expect_done(&rt, &replayed(&rt, rt.alloc(), script.as_bytes())?, report);
     }
@@ -65,7 +64,7 @@ fn expect_refused<R: Threads + Wait + Sync + Abort>(
     cause: Cause,
     name: &str,
 ) -> Result<(), AllocError> {
-    let script = with_line(alloc, SCRIPT, line as usize, Some(new))?;
+    let script = with_line(alloc, FADE, line as usize, Some(new))?;
     let answer = replayed(rt, alloc, script.as_bytes())?;
     assert!(rt; answer.status == Status::Refused { line, cause });
     expect_refusal(rt, alloc, &answer, line, name)
@@ -98,7 +97,7 @@ fn made_scripts_are_written_and_loaded(rt: HostRuntime) -> Result<(), Fail> {
             "load 1",
             "load 1: frames 4 rows 3 started 2 finished 0 aborted 0 heard 2 bytes 309\n",
         ),
-        ("gen 1", OF_ONE),
+        ("gen 1", REVERSED),
     ] {
         expect_done(&rt, &written(&rt, rt.alloc(), words)?, text);
     }
@@ -134,7 +133,7 @@ fn expect_replayed_plainly(
 
 #[test]
 fn arguments_that_are_no_command_touch_nothing(rt: HostRuntime) -> Result<(), Fail> {
-    let mut source = steady_source(rt.alloc(), SCRIPT)?;
+    let mut source = steady_source(rt.alloc(), FADE)?;
     let mut sink = SteadySink::new(rt.alloc(), 201)?;
     for words in &[
         "", "replay x", "gen", "gen 0", "gen 201", "gen 01", "gen +1", "load 1 2", "Run", "run x",

@@ -1,15 +1,16 @@
 //! Sources and sinks that fail: each call in turn.
 
 use crate::calls::{Answer, expect_front, expect_number, in_pieces};
-use crate::texts::{EMPTY, OF_ONE, REFUSAL, REFUSED, REPORT, SCRIPT};
+use crate::texts::{REFUSAL, REFUSED, REPORT};
 use std::alloc::{AllocError, Global};
 use std::process::Abort;
 use std::test::Fail;
+use test_scripts::{FADE, NOTHING, REVERSED};
 
 // The last of these reads finds the end.
 #[test]
 fn each_read_that_fails_leaves_nothing_written(rt: HostRuntime) -> Result<(), Fail> {
-    for (script, reads, number, text) in &[(SCRIPT, 16u32, 0, REPORT), (REFUSED, 2, 3, REFUSAL)] {
+    for (script, reads, number, text) in &[(FADE, 16u32, 0, REPORT), (REFUSED, 2, 3, REFUSAL)] {
         for failing in 0..*reads {
             expect_failing_read(&rt, rt.alloc(), script, failing, 4, "")?;
         }
@@ -37,9 +38,9 @@ fn expect_failing_read(
 #[test]
 fn each_write_that_fails_took_a_front_of_the_text(rt: HostRuntime) -> Result<(), Fail> {
     for (words, script, writes, number, text) in &[
-        ("replay", SCRIPT, 13u32, 0, REPORT),
+        ("replay", FADE, 13u32, 0, REPORT),
         ("replay", REFUSED, 2, 3, REFUSAL),
-        ("gen 1", EMPTY, 27, 0, OF_ONE),
+        ("gen 1", NOTHING, 27, 0, REVERSED),
     ] {
         for failing in 0..*writes {
             let answer = with_failing_write(rt.alloc(), words, script, failing)?;

@@ -5,7 +5,7 @@ use crate::calls::{
     Answer, answered, expect_done, expect_front, expect_number, expect_steady, replayed,
     steady_source,
 };
-use crate::texts::{EMPTY, EMPTY_REPORT, SCRIPT, with_line};
+use crate::texts::{EMPTY_REPORT, with_line};
 use anim_top::Status;
 use edge_io::{HoldGate, IdleGate, MeetGate, SteadySink};
 use std::alloc::{AllocError, Global};
@@ -14,6 +14,7 @@ use std::str::from_utf8;
 use std::sync::Wait;
 use std::test::Fail;
 use std::thread::Threads;
+use test_scripts::{FADE, NOTHING, TWO_COMMITS};
 
 const THREE_TICKS: &str = "anim 1
 main
@@ -31,21 +32,6 @@ frame 0 commit 0
 frame 0 commit 0
 frame 1125899906842624 commit 0
 heard 0
-end
-";
-
-const TWO_COMMITS: &str = "anim 1
-main
-element 1 100000 none
-commit
-element 2 200000 skew:1:2
-commit
-compositor
-pull
-activate
-tick 0
-tick 1000
-word MMMMCCCC
 end
 ";
 
@@ -72,8 +58,8 @@ end
 #[test]
 fn scripts_with_one_order_fill_a_steady_sink(rt: HostRuntime) -> Result<(), Fail> {
     for (words, script, report, length) in &[
-        ("replay", EMPTY, EMPTY_REPORT, 28),
-        ("run", EMPTY, EMPTY_REPORT, 28),
+        ("replay", NOTHING, EMPTY_REPORT, 28),
+        ("run", NOTHING, EMPTY_REPORT, 28),
         ("run", THREE_TICKS, THREE_TICKS_REPORT, 96),
     ] {
         let mut source = steady_source(rt.alloc(), script)?;
@@ -219,7 +205,7 @@ fn a_script_that_is_refused_is_not_run(rt: HostRuntime) -> Result<(), Fail> {
         (8, "drop-model 9", "refused: line 8: ModelUnknown\n"),
         (15, "word MMMMCCCC", "refused: line 15: BadWord\n"),
     ] {
-        let script = with_line(rt.alloc(), SCRIPT, *line, Some(*new))?;
+        let script = with_line(rt.alloc(), FADE, *line, Some(*new))?;
         expect_refused_by(&rt, rt.alloc(), "run", script.as_bytes(), refusal)?;
         expect_refused_by(&rt, rt.alloc(), "replay", script.as_bytes(), refusal)?;
     }

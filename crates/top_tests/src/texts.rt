@@ -2,25 +2,6 @@
 
 use std::alloc::{AllocError, Global};
 
-/// One model that fades in, over three ticks.
-pub const SCRIPT: &str = "anim 1
-main
-timeline 1 0
-element 1 1000000 none
-model 1 1 1 1 opacity - 0 1000 0 normal none 1000 auto linear 2
-key 0 linear 0
-key 1000000 linear 1000000
-commit
-compositor
-pull
-activate
-tick 16000
-tick 349333
-tick 516000
-word MMMMCCCCC
-end
-";
-
 /// Its report.
 pub const REPORT: &str = "report 1
 word MMMMCCCCC
@@ -35,59 +16,8 @@ heard 1
 end
 ";
 
-/// The script that is made from the number 1.
-pub const OF_ONE: &str = "anim 1
-main
-timeline 1 0
-element 1 1000000 translate:0:0:0
-model 1 1 1 1 opacity - 0 2000 0 reverse both 1000 auto linear 2
-key 0 linear 1000000
-key 101000 linear 0
-model 2 1 1 1 transform - 0 1000 0 normal both 1000 auto linear 2
-key 0 steps:4:jump-end translate:0:0:0
-key 200000 linear translate:1000:0:0
-commit
-drain
-commit
-drain
-compositor
-tick 0
-pull
-activate
-tick 16667
-tick 33334
-tick 50001
-word MMMCMMMCMMCCCC
-end
-";
-
-/// A script of no steps.
-pub const EMPTY: &str = "anim 1\nmain\ncompositor\nword -\nend\n";
-
 /// Its report.
 pub const EMPTY_REPORT: &str = "report 1\nword -\nheard 0\nend\n";
-
-/// An aborted model: the activation of commit 2 drops it.
-pub const DROPPED: &str = "anim 1
-main
-timeline 1 0
-element 1 1000000 none
-model 1 1 1 1 opacity - 0 1000 0 normal none 1000 auto linear 2
-key 0 linear 0
-key 1000000 linear 1000000
-commit
-drop-model 1
-commit
-compositor
-pull
-activate
-pull
-tick 1000
-activate
-tick 2000
-word MMMMCCMMCCCC
-end
-";
 
 /// Its report.
 pub const DROPPED_REPORT: &str = "report 1

@@ -6,7 +6,6 @@ ghost use Rattle.anim_names.specs.declared.limit.TheConstants.{MOST_MODELS};
 ghost use Rattle.easing_fixed.specs.Evaluators.{MayEase, Eases};
 ghost use Rattle.word_machine.specs.Moments.{MayReplay};
 
-use crate::texts::SCRIPT;
 use anim_delegate::{Delegate, Policy, VerdictFunction};
 use anim_names::Lane;
 use anim_names::limit::MOST_MODELS;
@@ -23,13 +22,14 @@ use std::alloc::{AllocError, Global};
 use std::process::Abort;
 use std::sync::Wait;
 use std::test::Fail;
+use test_scripts::FADE;
 
 // A keyframe model has two events at most.
 const MOST_EVENTS: u32 = 2 * MOST_MODELS;
 
 #[test]
 fn the_lanes_also_meet_on_one_thread(rt: HostRuntime) -> Result<(), Fail> {
-    let script = read_script(rt.alloc(), SCRIPT.as_bytes())?;
+    let script = read_script(rt.alloc(), FADE.as_bytes())?;
     let (count, board) = in_turn_with(&rt, rt.alloc(), &script, Policy::verdict_on, Easing::value)?;
     // A publish, a pull, and a send of the event that the model started.
     assert!(rt; count == 3);

@@ -1,3 +1,5 @@
+//! The causes for which operations are refused as a list: too many of them, or a number out of range.
+
 use thiserror::Error;
 
 /// Why operations make no list.

@@ -1,3 +1,6 @@
+//! Lists of transform operations and the blend of two: pairs that match from the front are blended, and of rests that
+//! do not match the nearer one shows.
+
 ghost use Rattle.std.specs.Prelude.{◌≡◌, ◌≢◌, ◌<◌, ◌≤◌, ◌↔◌, [], ◌++◌, length, map, All, unsigned_abs, IsTrue, OnOk, IfOk, slice_get, Some};
 ghost use Rattle.std.specs.List.{AllByRecursion, list_all, take_while, zip};
 ghost use Rattle.std.specs.Result.{result_err};

@@ -1,3 +1,6 @@
+//! Single transform operations: the range of their numbers, which two match, the neutral one of a kind, and the blend
+//! of two.
+
 ghost use Rattle.std.specs.Prelude.{◌≡◌, ◌≤◌, ◌↔◌, ◌&&◌, IsTrue, unsigned_abs};
 ghost use Rattle.value_blend.specs.declared.TheConstants.{LARGEST_PROGRESS};
 ghost use Rattle.value_blend.specs.Blends.{IsNumber, is_number};

@@ -1,13 +1,15 @@
 -- Elements of lists, and what tests, maps and filters make of them.
 use Rattle.std.proofs.Common.{◌≡◌, ℕ, zero, suc, ◌<◌, length, slice_index_or, arith, nat_eq, Bool, true, false, cond, List, [], ◌∷◌, ◌++◌, map, filter, Some, refl, sym, ap, subst, ◌∙◌, ◌⊎◌, inl, inr}
-use Rattle.std.specs.Prelude.{◌==◌, All, slice_get}
+use Rattle.std.specs.Prelude.{◌==◌, All, slice_get, ◌≢◌, ◌+◌, drop, unwrap_or}
 use Rattle.std.specs.List.{AllByRecursion, IsDistinct, list_any, list_all}
 use Rattle.std.proofs.lemmas.Bool.{false≢true, eq-eqb, or_left, or_right, or_cases, and_parts}
 use Rattle.std.proofs.lemmas.List.Elements.{All-head, All-tail}
-use Rattle.std.proofs.lemmas.Option.{get_or_from_slice_get, none-some, same_Some, slice_get_within}
+use Rattle.std.proofs.lemmas.Option.{get_or_from_slice_get, none-some, same_Some, slice_get_within, unwrap_or-slice_get}
 use Rattle.keyframe_model.specs.Models.{Spec}
 use Rattle.tree_commit.specs.Edits.{without}
-use Rattle.tree_commit.specs.Follows.{IsAmong}
+use Rattle.anim_names.specs.Lists.{IsAmong}
+use Rattle.std.proofs.lemmas.List.{drop_more}
+use Rattle.std.proofs.lemmas.Bool.Decides.{eqb_tells}
 
 pub among-append_left : {A : Type 0} (x : A) (xs ys : List A) → IsAmong x xs → IsAmong x (xs ++ ys)
 among-append_left x [] ys h = absurd h
@@ -156,3 +158,15 @@ among-without {A} p x (y ∷ xs) h = go (p y) (among-without p x xs) h
     go true rest h = inr h
     go false rest (inl e) = inl e
     go false rest (inr r) = inr (rest r)
+
+-- ---- places in lists
+
+-- the element at an index comes first of what is left from there on
+pub drop-found : {X : Type 0} (xs : List X) (i : ℕ) (x : X) → slice_get xs i ≡ Some x → drop i xs ≡ x ∷ drop (i + 1) xs
+drop-found xs i x found =
+    drop_more xs i x (slice_get_within xs i x found)
+    ∙ ap (λ y. y ∷ drop (i + 1) xs) (sym (unwrap_or-slice_get xs i x) ∙ ap (λ o. unwrap_or o x) found)
+
+-- numbers that differ fail the test
+pub apart : (a b : ℕ) → a ≢ b → nat_eq a b ≡ false
+apart a b differ = elim (eqb_tells a b) [ inl t ↦ absurd (differ t.1) | inr f ↦ f.0 ]

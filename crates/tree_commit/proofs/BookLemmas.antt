@@ -7,7 +7,7 @@ use Rattle.anim_names.specs.declared.property.Property.{Property}
 use Rattle.keyframe_model.specs.Models.{Spec, property_of}
 use Rattle.tree_commit.specs.declared.edits.group_shape.GroupShape.{GroupShape}
 use Rattle.tree_commit.specs.declared.edits.refusal.EditRefusal.TheVariants.{ModelIdUsed, TimelineUnknown, GroupClosed}
-use Rattle.tree_commit.specs.Edits.{Book, GroupParts, is_closed, AddModel, edit_refusal, model_refusal, is_in, is_mixed, parts_of, without, new_parts, with_property, with_member}
+use Rattle.tree_commit.specs.Edits.{Book, GroupParts, is_closed, AddModel, OnModels, edit_refusal, model_refusal, is_in, is_mixed, parts_of, without, new_parts, with_property, with_member}
 use Rattle.tree_commit.specs.Books.{HasParts, group_of, groups_from}
 
 -- where neither is so, the second is not so
@@ -93,17 +93,17 @@ no_reason true reason rest h = cc
 no_reason false reason rest h = (refl, h)
 
 -- a model that may be added has an id of its own
-pub unused_id : (book : Book) (model : Spec) → edit_refusal book (AddModel model) ≡ None → is_in model.id book.models ≡ false
+pub unused_id : (book : Book) (model : Spec) → edit_refusal book (OnModels (AddModel model)) ≡ None → is_in model.id book.models ≡ false
 unfolding edit_refusal model_refusal
 unused_id book model h = (no_reason _ _ _ h).0
 
 -- its timeline is there
-pub known_timeline : (book : Book) (model : Spec) → edit_refusal book (AddModel model) ≡ None → not (is_in model.timeline book.timelines) ≡ false
+pub known_timeline : (book : Book) (model : Spec) → edit_refusal book (OnModels (AddModel model)) ≡ None → not (is_in model.timeline book.timelines) ≡ false
 unfolding edit_refusal model_refusal
 known_timeline book model h = (no_reason _ _ _ (no_reason _ _ _ h).1).0
 
 -- and it goes with its group
-pub fits_group : (book : Book) (model : Spec) → edit_refusal book (AddModel model) ≡ None
+pub fits_group : (book : Book) (model : Spec) → edit_refusal book (OnModels (AddModel model)) ≡ None
     → is_mixed model.element model.timeline model.start (property_of model) (parts_of book model.group) ≡ false
 unfolding edit_refusal model_refusal
 fits_group book model h =
@@ -115,7 +115,7 @@ fits_group book model h =
 -- a model is refused by its parts alone
 pub edit_refusal-parts : (book : Book) (model : Spec) (id group element timeline : ℕ) (start : Option ℕ) (property : Property)
     → HasParts model id group element timeline start property
-    → model_refusal book id group element timeline start property ≡ edit_refusal book (AddModel model)
+    → model_refusal book id group element timeline start property ≡ edit_refusal book (OnModels (AddModel model))
 unfolding edit_refusal
 edit_refusal-parts book model id group element timeline start property parts =
     rw (← parts.id_is, ← parts.group_is, ← parts.element_is, ← parts.timeline_is, ← parts.start_is, ← parts.property_is)

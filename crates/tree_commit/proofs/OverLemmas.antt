@@ -10,6 +10,7 @@ use Rattle.micro_time.specs.declared.phase.Phase.{Phase}
 use Rattle.micro_time.specs.declared.phase.Phase.TheVariants.{Before, Active, After}
 use Rattle.micro_time.specs.Timings.{TimingParts, elapsed, covered, total, is_finite, phase, is_after, is_done, curve_time, curve_time_in}
 use Rattle.keyframe_model.specs.Models.{Spec, model_value, value_on}
+use Rattle.tree_commit.specs.declared.shown.Shown.{Shown}
 use Rattle.tree_commit.specs.Trees.{TreeLists, local_time}
 
 -- ---- a timing
@@ -68,23 +69,23 @@ curve_time-later t local more is =
 
 -- ---- a model of a tree
 
-local_time-later : (tree : TreeLists) (model : Spec) (start : ℤ) (tick later : ℕ) → tick ≤ later
-    → local_time tree later model start ≡ local_time tree tick model start +ℤ pos (later - tick)
-local_time-later tree model start tick later after = omega (arith, ints, after)
+local_time-later : (tree : TreeLists) (model : Spec) (shown : Shown) (tick later : ℕ) → tick ≤ later
+    → local_time tree later model shown ≡ local_time tree tick model shown +ℤ pos (later - tick)
+local_time-later tree model shown tick later after = omega (arith, ints, after)
 
 -- what is over at a tick is over at each later one
-pub over-later : (tree : TreeLists) (model : Spec) (start : ℤ) (tick later : ℕ) → tick ≤ later
-    → is_done model.timing (local_time tree tick model start) ≡ true
-    → is_done model.timing (local_time tree later model start) ≡ true
-over-later tree model start tick later after is =
-    ap (is_done model.timing) (local_time-later tree model start tick later after)
-    ∙ done-later model.timing (local_time tree tick model start) (later - tick) is
+pub over-later : (tree : TreeLists) (model : Spec) (shown : Shown) (tick later : ℕ) → tick ≤ later
+    → is_done model.timing (local_time tree tick model shown) ≡ true
+    → is_done model.timing (local_time tree later model shown) ≡ true
+over-later tree model shown tick later after is =
+    ap (is_done model.timing) (local_time-later tree model shown tick later after)
+    ∙ done-later model.timing (local_time tree tick model shown) (later - tick) is
 
 -- and gives the value of then
-pub value-later : (tree : TreeLists) (model : Spec) (start : ℤ) (tick later : ℕ) → tick ≤ later
-    → is_done model.timing (local_time tree tick model start) ≡ true
-    → model_value model (local_time tree later model start) ≡ model_value model (local_time tree tick model start)
+pub value-later : (tree : TreeLists) (model : Spec) (shown : Shown) (tick later : ℕ) → tick ≤ later
+    → is_done model.timing (local_time tree tick model shown) ≡ true
+    → model_value model (local_time tree later model shown) ≡ model_value model (local_time tree tick model shown)
 unfolding model_value
-value-later tree model start tick later after is =
-    ap (λ local. option_and_then (value_on model.curve) (curve_time model.timing local)) (local_time-later tree model start tick later after)
-    ∙ ap (option_and_then (value_on model.curve)) (curve_time-later model.timing (local_time tree tick model start) (later - tick) is)
+value-later tree model shown tick later after is =
+    ap (λ local. option_and_then (value_on model.curve) (curve_time model.timing local)) (local_time-later tree model shown tick later after)
+    ∙ ap (option_and_then (value_on model.curve)) (curve_time-later model.timing (local_time tree tick model shown) (later - tick) is)

@@ -8,13 +8,18 @@ use Rattle.std.proofs.lemmas.List.{length-map}
 use Rattle.std.proofs.lemmas.Map.Made.{is_some-lookup}
 use Rattle.keyframe_model.specs.Models.{Spec}
 use Rattle.tree_commit.specs.declared.base.Base.{Base}
-use Rattle.tree_commit.specs.Trees.{Clock}
+use Rattle.std.specs.Prelude.{◌-ℤ◌, unwrap_or, if◌then◌else◌}
+use Rattle.anim_timeline.specs.Timelines.{timeline_time}
+use Rattle.tree_commit.specs.declared.shown.Shown.{Shown}
+use Rattle.tree_commit.specs.Trees.{Clock, Element, Look, TreeLists, local_time}
+use Rattle.tree_commit.specs.Edits.{with_look}
 use Rattle.tree_commit.specs.Tables.{element_of, spec_of, clock_of, tree_of, StandUnderOwnIds}
 use Rattle.tree_commit.specs.Views.{look_of}
 
 -- ---- lists
 
-list_any-map : {A B : Type 0} (f : A → B) (p : B → Bool) (xs : List A) → list_any p (map f xs) ≡ list_any (λ x. p (f x)) xs
+-- a test of what is made of each
+pub list_any-map : {A B : Type 0} (f : A → B) (p : B → Bool) (xs : List A) → list_any p (map f xs) ≡ list_any (λ x. p (f x)) xs
 list_any-map f p [] = refl
 list_any-map f p (x ∷ xs) = ap (λ b. p (f x) || b) (list_any-map f p xs)
 
@@ -38,6 +43,16 @@ map-AllZip R f same [] [] h = refl
 map-AllZip R f same [] (y ∷ ys) h = absurd h
 map-AllZip R f same (x ∷ xs) [] h = absurd h
 map-AllZip R f same (x ∷ xs) (y ∷ ys) h = λ i. same x y h.0 i ∷ map-AllZip R f same xs ys h.1 i
+
+-- a changed look leaves the ids
+pub map-with_look : (id : ℕ) (change : Look → Look) (elements : List Element)
+    → map (λ element. element.id) (with_look id change elements) ≡ map (λ element. element.id) elements
+map-with_look id change [] = refl
+map-with_look id change (element ∷ elements) =
+    elim (nat_eq id element.id) as (λ b.
+    map (λ element. element.id) (if b then record element { look = change element.look } ∷ elements else element ∷ with_look id change elements)
+    ≡ map (λ element. element.id) (element ∷ elements))
+    [ true ↦ refl | false ↦ ap (λ ids. element.id ∷ ids) (map-with_look id change elements) ]
 
 -- ---- copies
 
@@ -118,3 +133,12 @@ module _ (id : ℕ) where
 
 pub ids_of_elements : (elements : List (ℕ × Base)) → map (λ element. element.id) (map element_of elements) ≡ keys_of elements
 ids_of_elements elements = map-map (λ element. element.id) element_of elements
+
+-- ---- local times
+
+-- a model's local time, where its timeline was found to show 0 at this tick
+pub local_time-found : (tree : TreeLists) (tick : ℕ) (model : Spec) (shown : Shown) (origin : ℕ)
+    → Some origin ≡ option_map (λ clock. clock.origin) (find (λ clock. model.timeline == clock.id) tree.timelines)
+    → local_time tree tick model shown ≡ timeline_time origin tick -ℤ shown.start
+local_time-found tree tick model shown origin found =
+    ap (λ o. timeline_time (unwrap_or o 0) tick -ℤ shown.start) (sym found)

@@ -5,24 +5,38 @@ use Rattle.std.specs.Option.{option_eq}
 use Rattle.anim_names.specs.declared.limit.LimitName.TheVariants.{Elements, Models, Timelines}
 use Rattle.anim_names.specs.declared.limit.TheConstants.{MOST_ELEMENTS, MOST_MODELS, MOST_TIMELINES}
 use Rattle.anim_names.specs.declared.property.Property.{Property}
-use Rattle.transform_ops.specs.declared.op.TransformOp.{TransformOp}
-use Rattle.keyframe_model.specs.Models.{Spec, property_of, same_property}
+use Rattle.anim_names.specs.Properties.{is_property}
+use Rattle.keyframe_model.specs.Models.{Spec, PropertyValue, property_of}
 use Rattle.tree_commit.specs.declared.edits.fault.EditFault.{EditFault}
 use Rattle.tree_commit.specs.declared.edits.fault.EditFault.TheVariants.{Refused, NoMemory}
 use Rattle.tree_commit.specs.declared.edits.refusal.EditRefusal.{EditRefusal}
 use Rattle.tree_commit.specs.declared.edits.refusal.EditRefusal.TheVariants.{ElementThere, ElementNotThere, ModelIdUsed, ModelUnknown, TimelineThere, TimelineUnknown, GroupClosed, GroupMixed, Limit}
-use Rattle.tree_commit.specs.Trees.{Look, Element, TreeLists, has_model}
+use Rattle.tree_commit.specs.Trees.{Look, Element, Clock, TreeLists, has_model, set_own, with_elements, with_models, with_timelines}
 
--- ---- edits and their effect
+-- ---- edits
 
+-- a change of the list of elements: one is added or removed, or shows another value of a property by itself
+pub data ElementChange : Type 0 where
+  AddElement : ℕ → Look → ElementChange
+  RemoveElement : ℕ → ElementChange
+  SetOwn : ℕ → PropertyValue → ElementChange
+
+-- a change of the list of timelines
+pub data TimelineChange : Type 0 where
+  AddTimeline : ℕ → ℕ → TimelineChange
+
+-- a change of the list of models
+pub data ModelChange : Type 0 where
+  AddModel : Spec → ModelChange
+  RemoveModel : ℕ → ModelChange
+
+-- an edit: a change of one of the tree's lists
 pub data Change : Type 0 where
-  AddElement : ℕ → Look → Change
-  RemoveElement : ℕ → Change
-  SetOpacity : ℕ → ℕ → Change
-  SetTransform : ℕ → List TransformOp → Change
-  AddTimeline : ℕ → ℕ → Change
-  AddModel : Spec → Change
-  RemoveModel : ℕ → Change
+  OnElements : ElementChange → Change
+  OnTimelines : TimelineChange → Change
+  OnModels : ModelChange → Change
+
+-- ---- their effect
 
 -- the list without the first that passes the test; the rest keep their order
 abbrev pub without : {A : Type 0} → (A → Bool) → List A → List A
@@ -36,24 +50,29 @@ with_look id change (element ∷ elements) =
     if id == element.id then record element { look = change element.look } ∷ elements else
     element ∷ with_look id change elements
 
-abbrev pub without_element : TreeLists → ℕ → TreeLists
-without_element tree id = record tree { elements = without (λ element. id == element.id) tree.elements }
+-- The elements after a change. What is added goes last.
+abbrev pub elements_after : List Element → ElementChange → List Element
+elements_after elements (AddElement id look) = elements ++ record { id = id; look = look } ∷ []
+elements_after elements (RemoveElement id) = without (λ element. id == element.id) elements
+elements_after elements (SetOwn id value) = with_look id (λ look. set_own look value) elements
+
+-- the timelines after a change
+abbrev pub timelines_after : List Clock → TimelineChange → List Clock
+timelines_after timelines (AddTimeline id origin) = timelines ++ record { id = id; origin = origin } ∷ []
+
+-- the models after a change
+abbrev pub models_after : List Spec → ModelChange → List Spec
+models_after models (AddModel model) = models ++ model ∷ []
+models_after models (RemoveModel id) = without (λ model. id == model.id) models
 
 abbrev pub without_model : TreeLists → ℕ → TreeLists
-without_model tree id = record tree { models = without (λ model. id == model.id) tree.models }
+without_model tree id = with_models tree (models_after tree.models (RemoveModel id))
 
--- The tree after an edit. What is added goes last. A model stays when its element is removed.
+-- The tree after an edit. A model stays when its element is removed.
 unfoldable pub tree_after : TreeLists → Change → TreeLists
-tree_after tree (AddElement id look) = record tree { elements = tree.elements ++ record { id = id; look = look } ∷ [] }
-tree_after tree (RemoveElement id) = without_element tree id
-tree_after tree (SetOpacity id opacity) =
-    record tree { elements = with_look id (λ look. record look { opacity = opacity }) tree.elements }
-tree_after tree (SetTransform id transform) =
-    record tree { elements = with_look id (λ look. record look { transform = transform }) tree.elements }
-tree_after tree (AddTimeline id origin) =
-    record tree { timelines = tree.timelines ++ record { id = id; origin = origin } ∷ [] }
-tree_after tree (AddModel model) = record tree { models = tree.models ++ model ∷ [] }
-tree_after tree (RemoveModel id) = without_model tree id
+tree_after tree (OnElements change) = with_elements tree (elements_after tree.elements change)
+tree_after tree (OnTimelines change) = with_timelines tree (timelines_after tree.timelines change)
+tree_after tree (OnModels change) = with_models tree (models_after tree.models change)
 
 -- ---- what an edit is checked against
 
@@ -98,7 +117,7 @@ abbrev pub is_mixed : ℕ → ℕ → Option ℕ → Property → Option GroupPa
 is_mixed element timeline start property None = false
 is_mixed element timeline start property (Some parts) =
     not (element == parts.element && timeline == parts.timeline && option_eq nat_eq start parts.start)
-    || list_any (same_property property) parts.properties
+    || list_any (is_property property) parts.properties
 
 -- why no model with these parts may be added: the first reason in this order
 unfoldable pub model_refusal : Book → ℕ → ℕ → ℕ → ℕ → Option ℕ → Property → Option EditRefusal
@@ -110,22 +129,33 @@ model_refusal book id group element timeline start property =
     if nat_le MOST_MODELS (length book.models) then Some (Limit Models) else
     None
 
--- why an edit is refused: the first reason in this order
-unfoldable pub edit_refusal : Book → Change → Option EditRefusal
-edit_refusal book (AddElement id look) =
+-- why a change of the elements is refused
+abbrev pub element_refusal : Book → ElementChange → Option EditRefusal
+element_refusal book (AddElement id look) =
     if is_in id book.elements then Some ElementThere else
     if nat_le MOST_ELEMENTS book.elements_added then Some (Limit Elements) else
     None
-edit_refusal book (RemoveElement id) = if is_in id book.elements then None else Some ElementNotThere
-edit_refusal book (SetOpacity id opacity) = if is_in id book.elements then None else Some ElementNotThere
-edit_refusal book (SetTransform id transform) = if is_in id book.elements then None else Some ElementNotThere
-edit_refusal book (AddTimeline id origin) =
+element_refusal book (RemoveElement id) = if is_in id book.elements then None else Some ElementNotThere
+element_refusal book (SetOwn id value) = if is_in id book.elements then None else Some ElementNotThere
+
+-- why a change of the timelines is refused
+abbrev pub timeline_refusal : Book → TimelineChange → Option EditRefusal
+timeline_refusal book (AddTimeline id origin) =
     if is_in id book.timelines then Some TimelineThere else
     if nat_le MOST_TIMELINES (length book.timelines) then Some (Limit Timelines) else
     None
-edit_refusal book (AddModel model) =
+
+-- why a change of the models is refused
+abbrev pub refusal_of_model : Book → ModelChange → Option EditRefusal
+refusal_of_model book (AddModel model) =
     model_refusal book model.id model.group model.element model.timeline model.start (property_of model)
-edit_refusal book (RemoveModel id) = if is_in id book.models then None else Some ModelUnknown
+refusal_of_model book (RemoveModel id) = if is_in id book.models then None else Some ModelUnknown
+
+-- why an edit is refused: the first reason in this order
+unfoldable pub edit_refusal : Book → Change → Option EditRefusal
+edit_refusal book (OnElements change) = element_refusal book change
+edit_refusal book (OnTimelines change) = timeline_refusal book change
+edit_refusal book (OnModels change) = refusal_of_model book change
 
 -- the refusal, where a fault is one
 abbrev pub refusal_in : Option EditFault → Option EditRefusal
@@ -133,15 +163,16 @@ refusal_in None = None
 refusal_in (Some NoMemory) = None
 refusal_in (Some (Refused refusal)) = Some refusal
 
+-- whether a change of the models finds what it is about: a model that is to be removed may be gone
+abbrev pub finds_its_model : TreeLists → ModelChange → Bool
+finds_its_model tree (AddModel model) = true
+finds_its_model tree (RemoveModel id) = has_model tree id
+
 -- Whether an edit that is not refused finds what it is about. Only a model that is to be removed may be gone.
 abbrev pub finds_its_target : TreeLists → Change → Bool
-finds_its_target tree (AddElement id look) = true
-finds_its_target tree (RemoveElement id) = true
-finds_its_target tree (SetOpacity id opacity) = true
-finds_its_target tree (SetTransform id transform) = true
-finds_its_target tree (AddTimeline id origin) = true
-finds_its_target tree (AddModel model) = true
-finds_its_target tree (RemoveModel id) = has_model tree id
+finds_its_target tree (OnElements change) = true
+finds_its_target tree (OnTimelines change) = true
+finds_its_target tree (OnModels change) = finds_its_model tree change
 
 -- ---- what is kept of an edit
 
@@ -165,17 +196,28 @@ with_member commits model (parts ∷ others) =
     if model.group == parts.group then with_property (property_of model) parts ∷ others else
     parts ∷ with_member commits model others
 
+-- the book after a change of the elements
+abbrev pub book_after_elements : Book → ElementChange → Book
+book_after_elements book (AddElement id look) =
+    record book { elements = book.elements ++ id ∷ []; elements_added = book.elements_added + 1 }
+book_after_elements book (RemoveElement id) = record book { elements = without (λ other. id == other) book.elements }
+book_after_elements book (SetOwn id value) = book
+
+-- the book after a change of the timelines
+abbrev pub book_after_timelines : Book → TimelineChange → Book
+book_after_timelines book (AddTimeline id origin) = record book { timelines = book.timelines ++ id ∷ [] }
+
+-- the book after a change of the models
+abbrev pub book_after_models : Book → ModelChange → Book
+book_after_models book (AddModel model) =
+    record book { models = book.models ++ model.id ∷ []; groups = with_member book.commits model book.groups }
+book_after_models book (RemoveModel id) = book
+
 -- the book after an edit that was not refused
 unfoldable pub book_after : Book → Change → Book
-book_after book (AddElement id look) =
-    record book { elements = book.elements ++ id ∷ []; elements_added = book.elements_added + 1 }
-book_after book (RemoveElement id) = record book { elements = without (λ other. id == other) book.elements }
-book_after book (SetOpacity id opacity) = book
-book_after book (SetTransform id transform) = book
-book_after book (AddTimeline id origin) = record book { timelines = book.timelines ++ id ∷ [] }
-book_after book (AddModel model) =
-    record book { models = book.models ++ model.id ∷ []; groups = with_member book.commits model book.groups }
-book_after book (RemoveModel id) = book
+book_after book (OnElements change) = book_after_elements book change
+book_after book (OnTimelines change) = book_after_timelines book change
+book_after book (OnModels change) = book_after_models book change
 
 -- the book after a commit
 abbrev pub book_after_commit : Book → Book

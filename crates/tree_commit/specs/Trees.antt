@@ -3,14 +3,27 @@ use Rattle.std.specs.Prelude.{ℕ, ◌+◌, ◌==◌, Bool, if◌then◌else◌,
 use Rattle.std.specs.List.{list_any}
 use Rattle.anim_timeline.specs.Timelines.{timeline_time}
 use Rattle.transform_ops.specs.declared.op.TransformOp.{TransformOp}
-use Rattle.keyframe_model.specs.Models.{Spec}
+use Rattle.keyframe_model.specs.Models.{Spec, PropertyValue, OpacityValue, TransformValue}
+use Rattle.anim_names.specs.declared.property.Property.{Property}
+use Rattle.anim_names.specs.declared.property.Property.TheVariants.{Opacity, Transform}
+use Rattle.tree_commit.specs.declared.shown.Shown.{Shown}
 
 -- ---- trees and commits
 
--- what an element shows where no model animates it
+-- what an element shows: a value of each property
 pub record Look : Type 0 where
   pub opacity : ℕ
   pub transform : List TransformOp
+
+-- the value of a property
+abbrev pub own_value : Look → Property → PropertyValue
+own_value look Opacity = OpacityValue look.opacity
+own_value look Transform = TransformValue look.transform
+
+-- the look with this value in the place of that of its property
+abbrev pub set_own : Look → PropertyValue → Look
+set_own look (OpacityValue opacity) = record look { opacity = opacity }
+set_own look (TransformValue transform) = record look { transform = transform }
 
 pub record Element : Type 0 where
   pub id : ℕ
@@ -27,6 +40,16 @@ pub record TreeLists : Type 0 where
   pub elements : List Element
   pub models : List Spec
   pub timelines : List Clock
+
+-- the tree with one of its lists changed
+abbrev pub with_elements : TreeLists → List Element → TreeLists
+with_elements tree elements = record tree { elements = elements }
+
+abbrev pub with_models : TreeLists → List Spec → TreeLists
+with_models tree models = record tree { models = models }
+
+abbrev pub with_timelines : TreeLists → List Clock → TreeLists
+with_timelines tree timelines = record tree { timelines = timelines }
 
 abbrev pub empty_tree : TreeLists
 empty_tree = record { elements = []; models = []; timelines = [] }
@@ -65,9 +88,9 @@ origin_of tree id = unwrap_or (option_map (λ clock. clock.origin) (find (λ clo
 abbrev pub time_of : TreeLists → ℕ → Spec → ℤ
 time_of tree tick model = timeline_time (origin_of tree model.timeline) tick
 
--- a model's local time at a tick: how long ago, on its timeline, the start was that was recorded for it
-abbrev pub local_time : TreeLists → ℕ → Spec → ℤ → ℤ
-local_time tree tick model start = time_of tree tick model -ℤ start
+-- a model's local time at a tick, by what is shown of it: how long ago, on its timeline, its recorded start was
+abbrev pub local_time : TreeLists → ℕ → Spec → Shown → ℤ
+local_time tree tick model shown = time_of tree tick model -ℤ shown.start
 
 -- ---- groups
 

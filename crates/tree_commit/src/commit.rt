@@ -1,3 +1,5 @@
+//! Main's tree as it was at a commit step. What is read off whole commits is defined above.
+
 ghost use Rattle.std.specs.Prelude.{◌≡◌, ◌==◌, nat_eq, ◌<◌, ◌≤◌, ◌-ℤ◌, unsigned_abs, IsTrue, IfOk, length, map, find, position, slice_get, Some, is_some, option_map};
 ghost use Rattle.std.specs.List.{IsDistinct};
 ghost use Rattle.std.specs.Option.{option_copied};
@@ -5,7 +7,7 @@ ghost use Rattle.anim_timeline.specs.Timelines.{IsTime};
 ghost use Rattle.micro_time.specs.declared.TheConstants.{LARGEST_LOCAL};
 ghost use Rattle.tree_commit.specs.Trees.{Committed, empty_commit, has_element, has_model, local_time};
 
-use crate::Base;
+use crate::{Base, Shown};
 use anim_names::{ElementId, ModelId, TimelineId};
 use anim_timeline::Timeline;
 use indexmap::IndexMap;
@@ -177,20 +179,20 @@ impl Commit {
         self.timelines.get(&id)
     }
 
-    /// The local time of a model at a tick, in microseconds: how long after its start the model's timeline is. The start
-    /// is a time of that timeline. The local time is negative before it.
-    pub fn local_time(&self, model: &ModelSpec, time: u64, start: i64) -> i64
+    /// The local time of a model at a tick, in microseconds, by what is shown of it: how long after its start the model's
+    /// timeline is. It is negative before the start.
+    pub fn local_time(&self, model: &ModelSpec, time: u64, shown: Shown) -> i64
         requires timeline_there { IsTrue (has_timeline self.now.tree model.now.timeline) }
         requires in_time { IsTime time }
-        requires fits { unsigned_abs (local_time self.now.tree time model.now start) ≤ LARGEST_LOCAL }
-        ensures { result ≡ local_time self.now.tree time model.now start }
+        requires fits { unsigned_abs (local_time self.now.tree time model.now shown) ≤ LARGEST_LOCAL }
+        ensures { result ≡ local_time self.now.tree time model.now shown }
     {
         let timeline = self.timeline(model.timeline()).unwrap();
-        since(timeline.time_of(time), start)
+        since(timeline.time_of(time), shown.start)
     }
 
-    // What the commit's tables take their memory from.
-    pub(crate) fn allocator(&self) -> Global {
+    /// What the commit's tables take their memory from.
+    pub fn allocator(&self) -> Global {
         *self.elements.allocator()
     }
 }

@@ -3,10 +3,11 @@
 use crate::both::{Answer, Both, Edited, expect_rows};
 use crate::samples::{self, Names};
 use anim_names::{ElementId, ModelId, Property, TimelineId};
+use element_samples::{Frame, FrameRow};
 use std::process::Abort;
 use std::sync::Arc;
 use std::test::Fail;
-use tree_commit::{Commit, Frame, FrameRow};
+use tree_commit::{Base, Commit};
 
 #[test]
 fn the_first_commit_is_empty(rt: HostRuntime) -> Result<(), Fail> {
@@ -75,8 +76,10 @@ fn expect_elements(rt: &impl Abort, commit: &Commit) {
 fn a_frame_has_its_rows(rt: HostRuntime) -> Result<(), Fail> {
     let row = FrameRow {
         element: ElementId(3),
-        opacity: samples::opacity(250_000)?,
-        transform: Arc::new(rt.alloc(), samples::moved(rt.alloc())?)?,
+        shown: Base {
+            opacity: samples::opacity(250_000)?,
+            transform: Arc::new(rt.alloc(), samples::moved(rt.alloc())?)?,
+        },
     };
     let frame = Frame::from_rows(16_000, 2, vec![in rt.alloc(); row]?);
     expect_frame(&rt, &frame);

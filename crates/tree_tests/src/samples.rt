@@ -9,7 +9,7 @@ use anim_timeline::Timeline;
 use curve_keys::{Curve, Key};
 use easing_fixed::Easing;
 use indexmap::IndexMap;
-use keyframe_model::{CurveOf, ModelSpec};
+use keyframe_model::{CurveOf, ModelSpec, SharedValue};
 use micro_time::{Direction, Fill, Iterations, LONGEST_DURATION, Timing};
 use std::alloc::{AllocError, Global};
 use std::process::Abort;
@@ -127,17 +127,17 @@ pub fn add_element(alloc: Global, id: u32) -> Result<Edit, Fail> {
 
 /// Makes an element half opaque.
 pub fn set_opacity(id: u32) -> Result<Edit, Fail> {
-    Ok(Edit::SetOpacity {
+    Ok(Edit::SetOwn {
         id: ElementId(id),
-        opacity: opacity(500_000)?,
+        value: SharedValue::Opacity(opacity(500_000)?),
     })
 }
 
 /// Moves an element.
 pub fn set_transform(alloc: Global, id: u32) -> Result<Edit, Fail> {
-    Ok(Edit::SetTransform {
+    Ok(Edit::SetOwn {
         id: ElementId(id),
-        transform: Arc::new(alloc, moved(alloc)?)?,
+        value: SharedValue::Transform(Arc::new(alloc, moved(alloc)?)?),
     })
 }
 

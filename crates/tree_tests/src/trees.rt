@@ -7,11 +7,12 @@ use active_tree::ActiveTree;
 use anim_names::{ElementId, ModelId};
 use anim_timeline::LAST_TIME;
 use easing_fixed::{Easing, EasingFunction, Evaluator};
+use element_samples::{Frame, StartTable};
 use pending_tree::PendingTree;
 use std::process::Abort;
 use std::test::Fail;
 use transform_ops::TransformOp;
-use tree_commit::{Frame, Shown, StartTable};
+use tree_commit::Shown;
 
 #[test]
 fn a_pending_commit_stands_until_it_is_taken(rt: HostRuntime) -> Result<(), Fail> {
@@ -84,7 +85,7 @@ fn expect_own_row(rt: &impl Abort, frame: &Frame) {
     assert!(rt; frame.row_count() == 1);
     let row = frame.row(0);
     assert!(rt; row.element == ElementId(7));
-    assert!(rt; row.opacity.get() == 500_000);
-    assert!(rt; row.transform.len() == 1);
-    assert!(rt; row.transform.op(0) == TransformOp::Translate { x: 1, y: 2, z: 3 });
+    assert!(rt; row.shown.opacity.get() == 500_000);
+    assert!(rt; row.shown.transform.len() == 1);
+    assert!(rt; row.shown.transform.op(0) == TransformOp::Translate { x: 1, y: 2, z: 3 });
 }

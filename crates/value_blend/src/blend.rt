@@ -1,3 +1,5 @@
+//! The trait of values that a curve can have: a blend, a copy, and the laws that a blend of two keeps.
+
 ghost use Rattle.std.specs.Prelude.{◌≡◌, ◌≤◌, ℤ, pos, unsigned_abs, Bool, false, IsOk, IfOk};
 ghost use Rattle.anim_names.specs.declared.progress.TheConstants.{ONE};
 ghost use Rattle.value_blend.specs.declared.TheConstants.{LARGEST_PROGRESS};

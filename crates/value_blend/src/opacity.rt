@@ -1,4 +1,6 @@
-ghost use Rattle.std.specs.Prelude.{◌≡◌, IfOk, IsOk, ◌≤◌, unsigned_abs};
+//! Opacities in millionths, always in range. A blend that an easing takes past an end is clamped to the range.
+
+ghost use Rattle.std.specs.Prelude.{◌≡◌, ◌≤◌, unsigned_abs};
 ghost use Rattle.value_blend.specs.declared.TheConstants.{LARGEST_PROGRESS};
 ghost use Rattle.value_blend.specs.Blends.{IsOpacity, opacity_of, blend_opacity};
 

@@ -1,6 +1,6 @@
 //! Values worked out by hand, which the check computes from the definitions.
 
-ghost use Rattle.std.specs.Prelude.{◌≡◌, ℤ, pos};
+ghost use Rattle.std.specs.Prelude.{◌≡◌, pos};
 ghost use Rattle.value_blend.specs.Blends.{blend_number, blend_opacity};
 
 /// What the cubic easing (0, -10, 1, 0) gives half way, in 2^20: far below 0.

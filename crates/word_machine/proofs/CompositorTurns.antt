@@ -1,28 +1,29 @@
 -- A step of the compositor leads from one moment of a run to the next, on the compositor's side and on the board.
 use Rattle.std.proofs.Common.{◌≡◌, ℕ, ◌+◌, ◌-◌, ◌<◌, ◌≤◌, ◌==◌, nat_lt, Bool, true, false, not, ◌&&◌, cond, Option, Some, None, List, [], ◌∷◌, ◌++◌, length, map, drop, refl, sym, ap, ◌∙◌, arith}
-use Rattle.std.specs.Prelude.{is_none}
+use Rattle.std.specs.Prelude.{is_none, unwrap_or}
 use Rattle.std.proofs.lemmas.Bool.{ltb-true, ltb-false, ne_eqb, eq-eqb}
 use Rattle.std.proofs.lemmas.List.{append-nil, length-map, map-append, drop-append-le, drop_all}
 use Rattle.anim_names.specs.declared.entry.EntryKind.TheVariants as kind
 use Rattle.anim_names.specs.declared.lane.Lane.TheVariants.{Compositor}
 use Rattle.frame_exchange.specs.Journals.{finds_nothing, last_pulled, published}
 use Rattle.frame_exchange.specs.Sides.{CompositorState, activated, compositor_after_activation, compositor_after_send, compositor_after_tick, news_of, slot_of}
-use Rattle.tree_commit.specs.declared.runs.compositor_step.CompositorStep.{CompositorStep}
-use Rattle.tree_commit.specs.declared.runs.compositor_step.CompositorStep.TheVariants.{Pull, Activate, Tick}
-use Rattle.tree_commit.specs.declared.runs.mark.Mark.{Mark}
+use Rattle.run_rules.specs.declared.compositor_step.CompositorStep.{CompositorStep}
+use Rattle.run_rules.specs.declared.compositor_step.CompositorStep.TheVariants.{Pull, Activate, Tick}
+use Rattle.run_rules.specs.declared.mark.Mark.{Mark}
 use Rattle.tree_commit.specs.Trees.{Committed}
-use Rattle.tree_commit.specs.Marks.{event_of, marks_of_tick}
-use Rattle.tree_commit.specs.Runs.{CompositorLane, after_activation, after_tick, compositor_step, newest_commit, with_pending}
-use Rattle.word_machine.specs.Courses.{Course, board_of, compositor_of, course_after, entries_with, in_mailbox, marks_of_pending, marks_of_step, sending}
-use Rattle.word_machine.specs.Turns.{board_after_compositor, board_told, board_with_news, compositor_turned, compositor_with_reply, frames_with}
+use Rattle.run_rules.specs.Marks.{event_of, marks_of_tick}
+use Rattle.run_rules.specs.Runs.{CompositorLane, after_activation, after_tick, compositor_step, newest_commit, with_pending}
+use Rattle.run_rules.specs.Scripts.{time_of_tick}
+use Rattle.run_laws.specs.Steps.{marks_of_pending, marks_of_step}
+use Rattle.run_laws.proofs.CompositorSteps.{by_step, makes-frames, quiet-time}
+use Rattle.word_machine.specs.Courses.{Course, board_of, compositor_of, course_after, entries_with, in_mailbox, sending}
+use Rattle.word_machine.specs.Turns.{board_after_compositor, board_told, board_with_news, compositor_turned, compositor_with_reply, frames_with, frames_with_tick}
 use Rattle.word_machine.proofs.MainTurns.{a_board, same_board}
 use Rattle.word_machine.proofs.Right.{IsRight, next_compositor}
 
 -- the time of the last tick after a step
 abbrev pub last_tick_after : CompositorStep → ℕ → ℕ
-last_tick_after Pull last_tick = last_tick
-last_tick_after Activate last_tick = last_tick
-last_tick_after (Tick time) last_tick = time
+last_tick_after step last_tick = unwrap_or (time_of_tick step) last_tick
 
 -- ---- a pull
 
@@ -68,14 +69,14 @@ pull_side course left last_tick models true is =
     (mailbox-newer course (later-taken course.lanes.compositor.pending course.lanes.compositor.pulled (newest_commit course.lanes.main.commits) is))
 pull_side course left last_tick models false is = refl
 
-pull_board : (course : Course) (left : List CompositorStep) (room event_room : ℕ) (taken : Bool) → IsRight course → takes course.lanes.compositor.pending course.lanes.compositor.pulled (newest_commit course.lanes.main.commits) ≡ taken → a_board (course.entries ++ record { lane = Compositor; upto = course.compositor_made + 1; kind = kind.Pull (cond (not taken) None (Some (published course.entries))) } ∷ []) (cond (not taken) (in_mailbox course.lanes) None) (map event_of course.lanes.compositor.marks) (length course.lanes.main.heard) event_room room ≡ board_of (pulled_next course left taken) room event_room
-pull_board course left room event_room true right is =
+pull_board : (course : Course) (left : List CompositorStep) (room queue_room : ℕ) (taken : Bool) → IsRight course → takes course.lanes.compositor.pending course.lanes.compositor.pulled (newest_commit course.lanes.main.commits) ≡ taken → a_board (course.entries ++ record { lane = Compositor; upto = course.compositor_made + 1; kind = kind.Pull (cond (not taken) None (Some (published course.entries))) } ∷ []) (cond (not taken) (in_mailbox course.lanes) None) (map event_of course.lanes.compositor.marks) (length course.lanes.main.heard) queue_room room ≡ board_of (pulled_next course left taken) room queue_room
+pull_board course left room queue_room true right is =
     let newest = newest_commit course.lanes.main.commits in
-    same_board event_room room
+    same_board queue_room room
     (ap (λ n. course.entries ++ record { lane = Compositor; upto = course.compositor_made + 1; kind = kind.Pull (Some n) } ∷ []) (right.published ∙ sym right.newest))
     (ap (λ b. cond b None (Some newest)) (sym (eq-eqb newest.number newest.number refl)))
     refl refl
-pull_board course left room event_room false right is = refl
+pull_board course left room queue_room false right is = refl
 
 -- ---- marks that are sent
 
@@ -105,18 +106,18 @@ abbrev pub room_with : List Mark → ℕ → ℕ
 room_with [] room = room
 room_with (mark ∷ marks) room = room - 1
 
-told : (course : Course) (lane : CompositorLane) (new : List Mark) (room event_room : ℕ) → HasNew lane course.lanes.compositor new → board_with_news (course.compositor_made + 1) (map event_of new) (board_of course room event_room) ≡ board_of (sent_next course lane new) (room_with new room) (event_room - length new)
-told course lane [] room event_room h =
+told : (course : Course) (lane : CompositorLane) (new : List Mark) (room queue_room : ℕ) → HasNew lane course.lanes.compositor new → board_with_news (course.compositor_made + 1) (map event_of new) (board_of course room queue_room) ≡ board_of (sent_next course lane new) (room_with new room) (queue_room - length new)
+told course lane [] room queue_room h =
     let marks : lane.marks ≡ course.lanes.compositor.marks = h.marks ∙ append-nil course.lanes.compositor.marks in
     let newest = newest_commit course.lanes.main.commits in
     ap (λ n. a_board course.entries (in_mailbox course.lanes) (map event_of course.lanes.compositor.marks) (length course.lanes.main.heard) n room) (omega arith)
-    ∙ same_board (event_room - 0) room (sym (append-nil course.entries))
+    ∙ same_board (queue_room - 0) room (sym (append-nil course.entries))
     (ap (λ n. cond (newest.number == n) None (Some newest)) (sym h.pulled)) (ap (map event_of) (sym marks)) refl
-told course lane (mark ∷ new) room event_room h =
+told course lane (mark ∷ new) room queue_room h =
     let newest = newest_commit course.lanes.main.commits in
     let count : length (map event_of (mark ∷ new)) ≡ length (mark ∷ new) = length-map (mark ∷ new) event_of in
-    ap (λ n. a_board (course.entries ++ record { lane = Compositor; upto = course.compositor_made + 1; kind = kind.Send n } ∷ []) (in_mailbox course.lanes) (map event_of course.lanes.compositor.marks ++ map event_of (mark ∷ new)) (length course.lanes.main.heard) (event_room - n) (room - 1)) count
-    ∙ same_board (event_room - length (mark ∷ new)) (room - 1) refl
+    ap (λ n. a_board (course.entries ++ record { lane = Compositor; upto = course.compositor_made + 1; kind = kind.Send n } ∷ []) (in_mailbox course.lanes) (map event_of course.lanes.compositor.marks ++ map event_of (mark ∷ new)) (length course.lanes.main.heard) (queue_room - n) (room - 1)) count
+    ∙ same_board (queue_room - length (mark ∷ new)) (room - 1) refl
     (ap (λ n. cond (newest.number == n) None (Some newest)) (sym h.pulled))
     (sym (map-append event_of course.lanes.compositor.marks (mark ∷ new)) ∙ ap (map event_of) (sym h.marks)) refl
 
@@ -134,20 +135,20 @@ activated-side : (course : Course) (left : List CompositorStep) (last_tick model
 activated-side course left last_tick models None = refl
 activated-side course left last_tick models (Some pending) = refl
 
-turned : (course : Course) (step : CompositorStep) (left : List CompositorStep) (room event_room last_tick models : ℕ) → IsRight course → compositor_turned step (board_of course room event_room) (compositor_of course last_tick models) ≡ compositor_of (next_compositor course (step ∷ left)) (last_tick_after step last_tick) models
-turned course Pull left room event_room last_tick models right =
+turned : (course : Course) (step : CompositorStep) (left : List CompositorStep) (room queue_room last_tick models : ℕ) → IsRight course → compositor_turned step (board_of course room queue_room) (compositor_of course last_tick models) ≡ compositor_of (next_compositor course (step ∷ left)) (last_tick_after step last_tick) models
+turned course Pull left room queue_room last_tick models right =
     let pending = course.lanes.compositor.pending in
     let pulled = course.lanes.compositor.pulled in
     let newest = newest_commit course.lanes.main.commits in
     ap (λ b. compositor_with_reply (cond b None (in_mailbox course.lanes)) (compositor_of course last_tick models)) (nothing-taken course right pending (takes pending pulled newest) refl)
     ∙ pull_side course left last_tick models (takes pending pulled newest) refl
-turned course Activate left room event_room last_tick models right = activated-side course left last_tick models course.lanes.compositor.pending
-turned course (Tick time) left room event_room last_tick models right = refl
+turned course Activate left room queue_room last_tick models right = activated-side course left last_tick models course.lanes.compositor.pending
+turned course (Tick time) left room queue_room last_tick models right = refl
 
-pub compositor-turned : (course : Course) (step : CompositorStep) (left : List CompositorStep) (room event_room last_tick models : ℕ) → course.lanes.compositor.left ≡ step ∷ left → IsRight course → compositor_turned step (board_of course room event_room) (compositor_of course last_tick models) ≡ compositor_of (course_after course Compositor) (last_tick_after step last_tick) models
+pub compositor-turned : (course : Course) (step : CompositorStep) (left : List CompositorStep) (room queue_room last_tick models : ℕ) → course.lanes.compositor.left ≡ step ∷ left → IsRight course → compositor_turned step (board_of course room queue_room) (compositor_of course last_tick models) ≡ compositor_of (course_after course Compositor) (last_tick_after step last_tick) models
 unfolding compositor_step
-compositor-turned course step left room event_room last_tick models is right =
-    turned course step left room event_room last_tick models right
+compositor-turned course step left room queue_room last_tick models is right =
+    turned course step left room queue_room last_tick models right
     ∙ ap (λ steps. compositor_of (next_compositor course steps) (last_tick_after step last_tick) models) (sym is)
 
 -- ---- the board
@@ -159,9 +160,7 @@ room_after_compositor Activate lane room = room_with (marks_of_step Activate lan
 room_after_compositor (Tick time) lane room = room_with (marks_of_step (Tick time) lane) room
 
 abbrev pub event_room_after : CompositorStep → CompositorLane → ℕ → ℕ
-event_room_after Pull lane event_room = event_room
-event_room_after Activate lane event_room = event_room - length (marks_of_step Activate lane)
-event_room_after (Tick time) lane event_room = event_room - length (marks_of_step (Tick time) lane)
+event_room_after step lane queue_room = queue_room - length (marks_of_step step lane)
 
 -- the news of a side in this lane are the events of the new marks
 pub news-of_side : (course : Course) (side : CompositorState) (lane : CompositorLane) (new : List Mark) → side.sent ≡ length course.lanes.compositor.marks → side.marks ≡ lane.marks → HasNew lane course.lanes.compositor new → news_of side ≡ map event_of new
@@ -171,12 +170,12 @@ news-of_side course side lane new sent marks h =
     ∙ news-new course lane new h
 
 -- the board once the side in this lane has told its news
-pub board-told : (course : Course) (side : CompositorState) (lane : CompositorLane) (new : List Mark) (room event_room : ℕ) → side.steps ≡ course.compositor_made + 1 → side.sent ≡ length course.lanes.compositor.marks → side.marks ≡ lane.marks → HasNew lane course.lanes.compositor new → board_told side (board_of course room event_room) ≡ board_of (sent_next course lane new) (room_with new room) (event_room - length new)
-board-told course side lane new room event_room steps sent marks h =
+pub board-told : (course : Course) (side : CompositorState) (lane : CompositorLane) (new : List Mark) (room queue_room : ℕ) → side.steps ≡ course.compositor_made + 1 → side.sent ≡ length course.lanes.compositor.marks → side.marks ≡ lane.marks → HasNew lane course.lanes.compositor new → board_told side (board_of course room queue_room) ≡ board_of (sent_next course lane new) (room_with new room) (queue_room - length new)
+board-told course side lane new room queue_room steps sent marks h =
     let news = news-of_side course side lane new sent marks h in
-    ap (λ n. board_with_news n (news_of side) (board_of course room event_room)) steps
-    ∙ ap (λ events. board_with_news (course.compositor_made + 1) events (board_of course room event_room)) news
-    ∙ told course lane new room event_room h
+    ap (λ n. board_with_news n (news_of side) (board_of course room queue_room)) steps
+    ∙ ap (λ events. board_with_news (course.compositor_made + 1) events (board_of course room queue_room)) news
+    ∙ told course lane new room queue_room h
 
 -- the marks of the side after an activation
 pub activated-marks : (course : Course) (left : List CompositorStep) (last_tick models : ℕ) (pending : Option Committed) → (activated (record (compositor_of course last_tick models) { pending = pending }) pending).marks ≡ (after_activation pending (record course.lanes.compositor { left = left })).marks
@@ -187,45 +186,40 @@ pub activated-sent : (course : Course) (last_tick models : ℕ) (pending : Optio
 activated-sent course last_tick models None = refl
 activated-sent course last_tick models (Some pending) = refl
 
-activated-steps : (course : Course) (last_tick models : ℕ) (pending : Option Committed) → (record (activated (record (compositor_of course last_tick models) { pending = pending }) pending) { steps = course.compositor_made + 1 }).steps ≡ course.compositor_made + 1
-activated-steps course last_tick models None = refl
-activated-steps course last_tick models (Some pending) = refl
-
-board-turned : (course : Course) (step : CompositorStep) (left : List CompositorStep) (room event_room last_tick models : ℕ) → IsRight course → board_after_compositor step (compositor_of course last_tick models) (board_of course room event_room) ≡ board_of (next_compositor course (step ∷ left)) (room_after_compositor step course.lanes.compositor room) (event_room_after step course.lanes.compositor event_room)
-board-turned course Pull left room event_room last_tick models right =
+board-turned : (course : Course) (step : CompositorStep) (left : List CompositorStep) (room queue_room last_tick models : ℕ) → IsRight course → board_after_compositor step (compositor_of course last_tick models) (board_of course room queue_room) ≡ board_of (next_compositor course (step ∷ left)) (room_after_compositor step course.lanes.compositor room) (event_room_after step course.lanes.compositor queue_room)
+board-turned course Pull left room queue_room last_tick models right =
     let lane = course.lanes.compositor in
+    let none : queue_room ≡ queue_room - 0 = omega arith in
     let newest = newest_commit course.lanes.main.commits in
-    ap (λ b. a_board (course.entries ++ record { lane = Compositor; upto = course.compositor_made + 1; kind = kind.Pull (cond b None (Some (published course.entries))) } ∷ []) (cond b (in_mailbox course.lanes) None) (map event_of lane.marks) (length course.lanes.main.heard) event_room (room - 1)) (nothing-taken course right lane.pending (takes lane.pending lane.pulled newest) refl)
-    ∙ pull_board course left (room - 1) event_room (takes lane.pending lane.pulled newest) right refl
-board-turned course Activate left room event_room last_tick models right =
+    ap (λ b. a_board (course.entries ++ record { lane = Compositor; upto = course.compositor_made + 1; kind = kind.Pull (cond b None (Some (published course.entries))) } ∷ []) (cond b (in_mailbox course.lanes) None) (map event_of lane.marks) (length course.lanes.main.heard) queue_room (room - 1)) (nothing-taken course right lane.pending (takes lane.pending lane.pulled newest) refl)
+    ∙ pull_board course left (room - 1) queue_room (takes lane.pending lane.pulled newest) right refl
+    ∙ ap (λ n. board_of (next_compositor course (Pull ∷ left)) (room - 1) n) none
+board-turned course Activate left room queue_room last_tick models right =
     let lane = course.lanes.compositor in
-    board-told course (compositor_after_activation (compositor_of course last_tick models)) (after_activation lane.pending (record lane { left = left })) (marks_of_pending lane.pending lane) room event_room
+    board-told course (compositor_after_activation (compositor_of course last_tick models)) (after_activation lane.pending (record lane { left = left })) (marks_of_pending lane.pending lane) room queue_room
     refl (activated-sent course last_tick models lane.pending) (activated-marks course left last_tick models lane.pending) (activated-lane lane.pending lane left)
-board-turned course (Tick time) left room event_room last_tick models right =
+board-turned course (Tick time) left room queue_room last_tick models right =
     let lane = course.lanes.compositor in
-    board-told course (compositor_after_tick (compositor_of course last_tick models) time) (after_tick time (record lane { left = left })) (marks_of_tick lane.active.tree lane.pending lane.marks time) room event_room
+    board-told course (compositor_after_tick (compositor_of course last_tick models) time) (after_tick time (record lane { left = left })) (marks_of_tick lane.active.tree lane.pending lane.marks time) room queue_room
     refl refl refl (ticked-lane time lane left)
 
-pub board-turned_compositor : (course : Course) (step : CompositorStep) (left : List CompositorStep) (room event_room last_tick models : ℕ) → course.lanes.compositor.left ≡ step ∷ left → IsRight course → board_after_compositor step (compositor_of course last_tick models) (board_of course room event_room) ≡ board_of (course_after course Compositor) (room_after_compositor step course.lanes.compositor room) (event_room_after step course.lanes.compositor event_room)
+pub board-turned_compositor : (course : Course) (step : CompositorStep) (left : List CompositorStep) (room queue_room last_tick models : ℕ) → course.lanes.compositor.left ≡ step ∷ left → IsRight course → board_after_compositor step (compositor_of course last_tick models) (board_of course room queue_room) ≡ board_of (course_after course Compositor) (room_after_compositor step course.lanes.compositor room) (event_room_after step course.lanes.compositor queue_room)
 unfolding compositor_step
-board-turned_compositor course step left room event_room last_tick models is right =
-    board-turned course step left room event_room last_tick models right
-    ∙ ap (λ steps. board_of (next_compositor course steps) (room_after_compositor step course.lanes.compositor room) (event_room_after step course.lanes.compositor event_room)) (sym is)
+board-turned_compositor course step left room queue_room last_tick models is right =
+    board-turned course step left room queue_room last_tick models right
+    ∙ ap (λ steps. board_of (next_compositor course steps) (room_after_compositor step course.lanes.compositor room) (event_room_after step course.lanes.compositor queue_room)) (sym is)
 
 -- ---- the frames
 
 frames-next : (course : Course) (step : CompositorStep) (left : List CompositorStep) (last_tick models : ℕ) → frames_with step (compositor_of course last_tick models) course.lanes.compositor.frames ≡ (next_compositor course (step ∷ left)).lanes.compositor.frames
-frames-next course Pull left last_tick models = go (takes course.lanes.compositor.pending course.lanes.compositor.pulled (newest_commit course.lanes.main.commits))
+frames-next course step left last_tick models =
+    by_step (λ step. frames_with step (compositor_of course last_tick models) course.lanes.compositor.frames ≡ (next_compositor course (step ∷ left)).lanes.compositor.frames)
+    (λ step quiet. undrawn step (quiet-time step quiet)) (undrawn Activate refl) (λ time. refl) step
   where
-    go : (taken : Bool) → course.lanes.compositor.frames ≡ (cond taken (with_pending (newest_commit course.lanes.main.commits) (record course.lanes.compositor { left = left })) (record course.lanes.compositor { left = left })).frames
-    go true = refl
-    go false = refl
-frames-next course Activate left last_tick models = go course.lanes.compositor.pending
-  where
-    go : (pending : Option Committed) → course.lanes.compositor.frames ≡ (after_activation pending (record course.lanes.compositor { left = left })).frames
-    go None = refl
-    go (Some pending) = refl
-frames-next course (Tick time) left last_tick models = refl
+    undrawn : (step : CompositorStep) → time_of_tick step ≡ None → frames_with step (compositor_of course last_tick models) course.lanes.compositor.frames ≡ (next_compositor course (step ∷ left)).lanes.compositor.frames
+    undrawn step none =
+        ap (λ time. frames_with_tick time (compositor_of course last_tick models) course.lanes.compositor.frames) none
+        ∙ sym (makes-frames course.lanes.main.commits step (record course.lanes.compositor { left = left }) none)
 
 pub frames-turned : (course : Course) (step : CompositorStep) (left : List CompositorStep) (last_tick models : ℕ) → course.lanes.compositor.left ≡ step ∷ left → frames_with step (compositor_of course last_tick models) course.lanes.compositor.frames ≡ (course_after course Compositor).lanes.compositor.frames
 unfolding compositor_step

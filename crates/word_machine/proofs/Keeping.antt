@@ -7,7 +7,7 @@ use Rattle.run_laws.proofs.GroupLaws.{finishes_together, one_blocker, starts_tog
 use Rattle.run_laws.proofs.HearingLemmas.{counts_add_up, heard_once}
 use Rattle.run_laws.proofs.NumberLemmas.{numbers_never_fall}
 use Rattle.run_laws.proofs.ShownLaws.{all_show_activated, skipped_is_silent}
-use Rattle.tree_commit.specs.Scripts.{IsWellFormed, ScriptLists}
+use Rattle.run_rules.specs.Scripts.{IsWellFormed, ScriptLists}
 use Rattle.word_machine.specs.Laws.{KeepsLaws}
 
 pub keeps_laws : (script : ScriptLists) → IsWellFormed script → (word : List Lane) → KeepsLaws script word

@@ -5,12 +5,12 @@ use Rattle.anim_names.specs.declared.lane.Lane.{Lane}
 use Rattle.anim_names.specs.declared.lane.Lane.TheVariants.{Main, Compositor}
 use Rattle.frame_exchange.specs.Journals.{Exchange, IsExchange}
 use Rattle.frame_exchange.specs.Sides.{CompositorState, MainState}
-use Rattle.tree_commit.specs.declared.runs.compositor_step.CompositorStep.{CompositorStep}
-use Rattle.tree_commit.specs.declared.runs.main_step.MainStep.{MainStep}
-use Rattle.tree_commit.specs.Frames.{DrawnFrame}
-use Rattle.tree_commit.specs.Runs.{compositor_step, main_step}
-use Rattle.tree_commit.specs.Scripts.{IsWellFormed, ScriptLists, StepOfMain}
-use Rattle.tree_commit.specs.Views.{step_of}
+use Rattle.run_rules.specs.declared.compositor_step.CompositorStep.{CompositorStep}
+use Rattle.run_rules.specs.declared.main_step.MainStep.{MainStep}
+use Rattle.run_rules.specs.Frames.{DrawnFrame}
+use Rattle.run_rules.specs.Runs.{compositor_step, main_step}
+use Rattle.run_rules.specs.Scripts.{IsWellFormed, ScriptLists, StepOfMain}
+use Rattle.run_rules.specs.Views.{step_of}
 use Rattle.word_machine.specs.Courses.{Course, course_after, course_of}
 use Rattle.word_machine.specs.Moments.{IsAt, MayReplay}
 use Rattle.word_machine.specs.Turns.{MayMakeCompositor, MayMakeMain, board_after_compositor, board_after_main, compositor_turned, counts_with, frames_with, main_turned}
@@ -37,11 +37,11 @@ amid_beginning script well main compositor board counts frames steps_of_main ste
 longer : (items : List Lane) (i : ℕ) (letter : Lane) → i < length items → get_or items i Main ≡ letter → take i items ++ letter ∷ [] ≡ take (i + 1) items
 longer items i letter within is = ap (λ l. take i items ++ l ∷ []) (sym is) ∙ sym (take_more items i Main within)
 
-left-after_main : (course : Course) (step : StepOfMain) (left : List StepOfMain) → course.lanes.main.left ≡ step ∷ left → (course_after course Main).lanes.main.left ≡ left
+pub left-after_main : (course : Course) (step : StepOfMain) (left : List StepOfMain) → course.lanes.main.left ≡ step ∷ left → (course_after course Main).lanes.main.left ≡ left
 unfolding main_step
 left-after_main course step left is = ap (λ steps. (next_main course steps).lanes.main.left) is ∙ main-left_next course step left
 
-left-after_compositor : (course : Course) (step : CompositorStep) (left : List CompositorStep) → course.lanes.compositor.left ≡ step ∷ left → (course_after course Compositor).lanes.compositor.left ≡ left
+pub left-after_compositor : (course : Course) (step : CompositorStep) (left : List CompositorStep) → course.lanes.compositor.left ≡ step ∷ left → (course_after course Compositor).lanes.compositor.left ≡ left
 unfolding compositor_step
 left-after_compositor course step left is = ap (λ steps. (next_compositor course steps).lanes.compositor.left) is ∙ compositor-left_next course step left
 

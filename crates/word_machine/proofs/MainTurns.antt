@@ -11,17 +11,17 @@ use Rattle.anim_names.specs.declared.limit.TheConstants.{MOST_STEPS}
 use Rattle.frame_exchange.specs.Journals.{Exchange}
 use Rattle.tree_commit.specs.Trees.{Committed, next_commit}
 use Rattle.tree_commit.specs.Edits.{Book}
-use Rattle.tree_commit.specs.Marks.{event_of}
-use Rattle.tree_commit.specs.Scripts.{StepOfMain, EditStep, CommitStep, DrainStep, book_after_step, is_allowed}
-use Rattle.tree_commit.specs.Runs.{after_drain, main_step, unheard_events}
+use Rattle.run_rules.specs.Marks.{event_of}
+use Rattle.run_rules.specs.Scripts.{StepOfMain, EditStep, CommitStep, DrainStep, book_after_step, is_allowed}
+use Rattle.run_rules.specs.Runs.{after_drain, main_step, unheard_events}
 use Rattle.word_machine.specs.Courses.{Course, board_of, course_after, main_of}
 use Rattle.word_machine.specs.Turns.{MayMakeMain, board_after_main, counts_with, main_turned}
 use Rattle.word_machine.proofs.Right.{IsRight, newest-last, next_main, unheard-length}
 
 -- ---- before the step
 
-pub may_make_main : (course : Course) (step : StepOfMain) (book : Book) (room event_room batch_room : ℕ) → IsRight course → book.commits ≡ length course.lanes.main.commits → IsTrue (is_allowed book step) → course.main_made < MOST_STEPS → 0 < room → length course.lanes.compositor.marks ≤ batch_room → length course.lanes.compositor.marks < 2 ^ 32 → MayMakeMain step (main_of course book batch_room) (board_of course room event_room)
-may_make_main course step book room event_room batch_room right counted allowed under some fits few =
+pub may_make_main : (course : Course) (step : StepOfMain) (book : Book) (room queue_room batch_room : ℕ) → IsRight course → book.commits ≡ length course.lanes.main.commits → IsTrue (is_allowed book step) → course.main_made < MOST_STEPS → 0 < room → length course.lanes.compositor.marks ≤ batch_room → length course.lanes.compositor.marks < 2 ^ 32 → MayMakeMain step (main_of course book batch_room) (board_of course room queue_room)
+may_make_main course step book room queue_room batch_room right counted allowed under some fits few =
     let unheard = unheard-length course.lanes.compositor.marks course.lanes.main in
     record {
       complete = record { published = refl; heard = refl };
@@ -36,36 +36,36 @@ may_make_main course step book room event_room batch_room right counted allowed 
 
 -- ---- main's side
 
-turned : (course : Course) (step : StepOfMain) (left : List StepOfMain) (book : Book) (room event_room batch_room : ℕ) → main_turned step (board_of course room event_room) (main_of course book batch_room) ≡ main_of (next_main course (step ∷ left)) (book_after_step book step) batch_room
+turned : (course : Course) (step : StepOfMain) (left : List StepOfMain) (book : Book) (room queue_room batch_room : ℕ) → main_turned step (board_of course room queue_room) (main_of course book batch_room) ≡ main_of (next_main course (step ∷ left)) (book_after_step book step) batch_room
 unfolding after_drain
-turned course (EditStep change) left book room event_room batch_room = refl
-turned course CommitStep left book room event_room batch_room = refl
-turned course DrainStep left book room event_room batch_room =
+turned course (EditStep change) left book room queue_room batch_room = refl
+turned course CommitStep left book room queue_room batch_room = refl
+turned course DrainStep left book room queue_room batch_room =
     ap (λ n. record (main_of (next_main course (DrainStep ∷ left)) book batch_room) { heard = n })
     (sym (length-append course.lanes.main.heard (unheard_events course.lanes.compositor.marks course.lanes.main)))
 
-pub main-turned : (course : Course) (step : StepOfMain) (left : List StepOfMain) (book : Book) (room event_room batch_room : ℕ) → course.lanes.main.left ≡ step ∷ left → main_turned step (board_of course room event_room) (main_of course book batch_room) ≡ main_of (course_after course Main) (book_after_step book step) batch_room
+pub main-turned : (course : Course) (step : StepOfMain) (left : List StepOfMain) (book : Book) (room queue_room batch_room : ℕ) → course.lanes.main.left ≡ step ∷ left → main_turned step (board_of course room queue_room) (main_of course book batch_room) ≡ main_of (course_after course Main) (book_after_step book step) batch_room
 unfolding main_step
-main-turned course step left book room event_room batch_room is =
-    turned course step left book room event_room batch_room
+main-turned course step left book room queue_room batch_room is =
+    turned course step left book room queue_room batch_room
     ∙ ap (λ steps. main_of (next_main course steps) (book_after_step book step) batch_room) (sym is)
 
 -- ---- the board
 
 abbrev pub a_board : List Entry → Option Committed → List AnimEvent → ℕ → ℕ → ℕ → Exchange
-a_board entries mailbox events heard event_room room = record {
+a_board entries mailbox events heard queue_room room = record {
   entries = entries;
   mailbox = mailbox;
-  queue = record { events = events; heard = heard; room = event_room };
+  queue = record { events = events; heard = heard; room = queue_room };
   room = room;
 }
 
-pub same_board : {entries more : List Entry} {mailbox newer : Option Committed} {events longer : List AnimEvent} {heard most : ℕ} (event_room room : ℕ) → entries ≡ more → mailbox ≡ newer → events ≡ longer → heard ≡ most → a_board entries mailbox events heard event_room room ≡ a_board more newer longer most event_room room
-same_board {entries} {more} {mailbox} {newer} {events} {longer} {heard} {most} event_room room e m v h =
-    ap (λ x. a_board x mailbox events heard event_room room) e
-    ∙ ap (λ x. a_board more x events heard event_room room) m
-    ∙ ap (λ x. a_board more newer x heard event_room room) v
-    ∙ ap (λ x. a_board more newer longer x event_room room) h
+pub same_board : {entries more : List Entry} {mailbox newer : Option Committed} {events longer : List AnimEvent} {heard most : ℕ} (queue_room room : ℕ) → entries ≡ more → mailbox ≡ newer → events ≡ longer → heard ≡ most → a_board entries mailbox events heard queue_room room ≡ a_board more newer longer most queue_room room
+same_board {entries} {more} {mailbox} {newer} {events} {longer} {heard} {most} queue_room room e m v h =
+    ap (λ x. a_board x mailbox events heard queue_room room) e
+    ∙ ap (λ x. a_board more x events heard queue_room room) m
+    ∙ ap (λ x. a_board more newer x heard queue_room room) v
+    ∙ ap (λ x. a_board more newer longer x queue_room room) h
 
 -- the room that a step of main leaves
 abbrev pub room_after_main : StepOfMain → ℕ → ℕ
@@ -77,35 +77,35 @@ room_after_main DrainStep room = room - 1
 mailbox-new : (newest : Committed) (pulled : ℕ) → (newest.number ≡ pulled → ⊥) → cond (newest.number == pulled) None (Some newest) ≡ Some newest
 mailbox-new newest pulled other = ap (λ b. cond b None (Some newest)) (ne_eqb newest.number pulled other)
 
-board-turned_next : (course : Course) (step : StepOfMain) (left : List StepOfMain) (book : Book) (room event_room batch_room : ℕ) → IsRight course → book.commits ≡ length course.lanes.main.commits → board_after_main step (main_of course book batch_room) (board_of course room event_room) ≡ board_of (next_main course (step ∷ left)) (room_after_main step room) event_room
+board-turned_next : (course : Course) (step : StepOfMain) (left : List StepOfMain) (book : Book) (room queue_room batch_room : ℕ) → IsRight course → book.commits ≡ length course.lanes.main.commits → board_after_main step (main_of course book batch_room) (board_of course room queue_room) ≡ board_of (next_main course (step ∷ left)) (room_after_main step room) queue_room
 unfolding after_drain
-board-turned_next course (EditStep change) left book room event_room batch_room right counted =
-    same_board event_room room (sym (append-nil course.entries)) refl refl refl
-board-turned_next course CommitStep left book room event_room batch_room right counted =
+board-turned_next course (EditStep change) left book room queue_room batch_room right counted =
+    same_board queue_room room (sym (append-nil course.entries)) refl refl refl
+board-turned_next course CommitStep left book room queue_room batch_room right counted =
     let commits = course.lanes.main.commits in
     let tree = course.lanes.main.tree in
     let pulled = course.lanes.compositor.pulled in
     let new = next_commit (length commits) tree in
-    same_board event_room (room - 1)
+    same_board queue_room (room - 1)
     (ap (λ n. course.entries ++ record { lane = Main; upto = course.main_made + 1; kind = kind.Publish (n + 1) } ∷ []) right.published)
     (ap (λ n. Some (next_commit n tree)) counted
     ∙ sym (mailbox-new new pulled (λ e. omega (arith, e, right.within)))
     ∙ ap (λ (c : Committed). cond (c.number == pulled) None (Some c)) (sym (newest-last commits new)))
     refl refl
-board-turned_next course DrainStep left book room event_room batch_room right counted =
+board-turned_next course DrainStep left book room queue_room batch_room right counted =
     let marks = course.lanes.compositor.marks in
     let heard = course.lanes.main.heard in
     let new = unheard_events marks course.lanes.main in
     let all : length (heard ++ new) ≡ length heard + length new = length-append heard new in
     let events : length (map event_of marks) ≡ length marks = length-map marks event_of in
-    same_board event_room (room - 1) refl refl refl
+    same_board queue_room (room - 1) refl refl refl
     (omega (arith, all, events, unheard-length marks course.lanes.main, right.heard))
 
-pub board-turned_main : (course : Course) (step : StepOfMain) (left : List StepOfMain) (book : Book) (room event_room batch_room : ℕ) → course.lanes.main.left ≡ step ∷ left → IsRight course → book.commits ≡ length course.lanes.main.commits → board_after_main step (main_of course book batch_room) (board_of course room event_room) ≡ board_of (course_after course Main) (room_after_main step room) event_room
+pub board-turned_main : (course : Course) (step : StepOfMain) (left : List StepOfMain) (book : Book) (room queue_room batch_room : ℕ) → course.lanes.main.left ≡ step ∷ left → IsRight course → book.commits ≡ length course.lanes.main.commits → board_after_main step (main_of course book batch_room) (board_of course room queue_room) ≡ board_of (course_after course Main) (room_after_main step room) queue_room
 unfolding main_step
-board-turned_main course step left book room event_room batch_room is right counted =
-    board-turned_next course step left book room event_room batch_room right counted
-    ∙ ap (λ steps. board_of (next_main course steps) (room_after_main step room) event_room) (sym is)
+board-turned_main course step left book room queue_room batch_room is right counted =
+    board-turned_next course step left book room queue_room batch_room right counted
+    ∙ ap (λ steps. board_of (next_main course steps) (room_after_main step room) queue_room) (sym is)
 
 -- ---- the counts
 

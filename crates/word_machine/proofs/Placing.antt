@@ -1,11 +1,12 @@
 -- A commit that a pull gives may be placed.
-use Rattle.std.proofs.Common.{◌≡◌, Bool, true, false, not, Option, Some, None, refl, sym, subst, ◌∙◌}
+use Rattle.std.proofs.Common.{◌≡◌, Bool, true, not, Option, Some, None, sym, subst, ◌∙◌}
 use Rattle.std.specs.Prelude.{IsSomeAnd}
+use Rattle.std.proofs.lemmas.Bool.{not-true}
 use Rattle.frame_exchange.specs.Journals.{Exchange, finds_nothing, reply_to_pull}
 use Rattle.frame_exchange.specs.Sides.{CompositorState, compositor_after_pull, slot_of}
-use Rattle.tree_commit.specs.declared.runs.compositor_step.CompositorStep.{CompositorStep}
-use Rattle.tree_commit.specs.declared.runs.compositor_step.CompositorStep.TheVariants.{Pull}
-use Rattle.tree_commit.specs.Follows.{Follows, KnowsAtMost}
+use Rattle.run_rules.specs.declared.compositor_step.CompositorStep.{CompositorStep}
+use Rattle.run_rules.specs.declared.compositor_step.CompositorStep.TheVariants.{Pull}
+use Rattle.run_rules.specs.Follows.{Follows, KnowsAtMost}
 use Rattle.tree_commit.specs.Trees.{Committed}
 use Rattle.word_machine.specs.Turns.{AllowsStep, MayPlace}
 
@@ -23,8 +24,4 @@ place-room old new (Some commit) made h =
 pub found-allows : (step : CompositorStep) (compositor : CompositorState) (board : Exchange) (found : Bool) → step ≡ Pull → AllowsStep step compositor board → found ≡ true → found ≡ not (finds_nothing board.entries (slot_of compositor.pending)) → IsSomeAnd (reply_to_pull board (slot_of compositor.pending)) (MayPlace compositor)
 found-allows step compositor board found pull allows was is =
     let allowed : AllowsStep Pull compositor board = subst (λ (s : CompositorStep). AllowsStep s compositor board) pull allows in
-    allowed (some (finds_nothing board.entries (slot_of compositor.pending)) (sym is ∙ was))
-  where
-    some : (nothing : Bool) → not nothing ≡ true → nothing ≡ false
-    some true e = cc
-    some false e = refl
+    allowed (not-true (finds_nothing board.entries (slot_of compositor.pending)) (sym is ∙ was))

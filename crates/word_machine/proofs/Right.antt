@@ -10,14 +10,15 @@ use Rattle.anim_names.specs.declared.lane.Lane.TheVariants.{Main, Compositor}
 use Rattle.commit_lock.proofs.Lanes.{entries_of-append}
 use Rattle.commit_lock.specs.Journals.{entries_of}
 use Rattle.frame_exchange.specs.Journals.{is_publish, published, pulled_after, last_pulled, sent_by, sent, drained_by, drained, last_upto}
-use Rattle.tree_commit.specs.declared.runs.mark.Mark.{Mark}
-use Rattle.tree_commit.specs.declared.runs.compositor_step.CompositorStep.{CompositorStep}
-use Rattle.tree_commit.specs.declared.runs.compositor_step.CompositorStep.TheVariants.{Pull, Activate, Tick}
+use Rattle.run_rules.specs.declared.mark.Mark.{Mark}
+use Rattle.run_rules.specs.declared.compositor_step.CompositorStep.{CompositorStep}
+use Rattle.run_rules.specs.declared.compositor_step.CompositorStep.TheVariants.{Pull, Activate, Tick}
 use Rattle.tree_commit.specs.Trees.{Committed, empty_commit, next_commit}
-use Rattle.tree_commit.specs.Marks.{event_of, marks_of_tick, marks_of_activation}
-use Rattle.tree_commit.specs.Scripts.{StepOfMain, EditStep, CommitStep, DrainStep, ScriptLists}
-use Rattle.tree_commit.specs.Runs.{MainLane, CompositorLane, beginning, after_letter, after, main_step, main_takes, after_drain, unheard_events, newest_commit, with_pending, after_activation, after_tick, compositor_step, compositor_takes}
-use Rattle.word_machine.specs.Courses.{Course, opening, course_after, course_of, main_notes, compositor_notes, made_with, entries_with, marks_of_pending, sending}
+use Rattle.run_rules.specs.Marks.{event_of, marks_of_tick, marks_of_activation}
+use Rattle.run_rules.specs.Scripts.{StepOfMain, EditStep, CommitStep, DrainStep, ScriptLists}
+use Rattle.run_rules.specs.Runs.{MainLane, CompositorLane, beginning, after_letter, after, main_step, main_takes, after_drain, unheard_events, newest_commit, with_pending, after_activation, after_tick, compositor_step, compositor_takes}
+use Rattle.run_laws.specs.Steps.{marks_of_pending}
+use Rattle.word_machine.specs.Courses.{Course, opening, course_after, course_of, main_notes, compositor_notes, made_with, entries_with, sending}
 
 -- ---- one entry more, or none
 

@@ -1,6 +1,6 @@
 -- What is left of a script while it runs, and how large a run grows.
 use Rattle.std.proofs.Common.{◌≡◌, ℕ, ◌+◌, ◌≤◌, nat_le, Bool, true, false, cond, Option, Some, None, List, [], ◌∷◌, ◌++◌, length, refl, sym, ap, ◌∙◌, subst, inl, inr, arith}
-use Rattle.std.specs.Prelude.{IfSome, unsigned_abs}
+use Rattle.std.specs.Prelude.{IfSome, unsigned_abs, unwrap_or}
 use Rattle.std.proofs.lemmas.Bool.{and_parts, leb-true}
 use Rattle.std.proofs.lemmas.List.{append-nil, length-append}
 use Rattle.anim_names.specs.declared.lane.Lane.{Lane}
@@ -15,19 +15,21 @@ use Rattle.run_laws.proofs.EventLaws.{events_are_few}
 use Rattle.run_laws.proofs.FollowLaws.{known_were_added, pending_follows}
 use Rattle.run_laws.proofs.NumberLaws.{local_times_are_small}
 use Rattle.run_laws.proofs.TreeLaws.{all-from_among}
-use Rattle.tree_commit.specs.declared.runs.compositor_step.CompositorStep.{CompositorStep}
-use Rattle.tree_commit.specs.declared.runs.compositor_step.CompositorStep.TheVariants.{Pull, Activate, Tick}
-use Rattle.tree_commit.specs.declared.runs.shown.Shown.{Shown}
-use Rattle.tree_commit.specs.Trees.{Committed, local_time, next_commit}
-use Rattle.tree_commit.specs.Edits.{AddElement, RemoveElement, SetOpacity, SetTransform, AddTimeline, AddModel, RemoveModel, Book, Change, book_after, new_book}
-use Rattle.tree_commit.specs.Follows.{IsAmong}
-use Rattle.tree_commit.specs.Frames.{LocalTimesFit, shown_by}
-use Rattle.tree_commit.specs.Marks.{is_aborted, start_of}
-use Rattle.tree_commit.specs.Scripts.{StepOfMain, EditStep, CommitStep, DrainStep, ScriptLists, IsWellFormed, are_allowed, are_at_most, book_after_step, is_allowed, never_fall_from, ticks_of}
-use Rattle.tree_commit.specs.Runs.{Lanes, after_activation, after_drain, compositor_step, main_step, newest_commit, with_pending}
+use Rattle.run_laws.proofs.CompositorSteps.{by_step, makes-left, quiet-time, ticks-left}
+use Rattle.run_laws.proofs.Births.{commits-edit}
+use Rattle.run_rules.specs.declared.compositor_step.CompositorStep.{CompositorStep}
+use Rattle.run_rules.specs.declared.compositor_step.CompositorStep.TheVariants.{Activate, Tick}
+use Rattle.tree_commit.specs.declared.shown.Shown.{Shown}
+use Rattle.tree_commit.specs.Trees.{local_time, next_commit}
+use Rattle.tree_commit.specs.Edits.{Book, new_book, book_after}
+use Rattle.anim_names.specs.Lists.{IsAmong}
+use Rattle.run_rules.specs.Frames.{LocalTimesFit, shown_by}
+use Rattle.run_rules.specs.Marks.{is_aborted, start_of}
+use Rattle.run_rules.specs.Scripts.{StepOfMain, EditStep, CommitStep, DrainStep, ScriptLists, IsWellFormed, are_allowed, are_at_most, book_after_step, is_allowed, never_fall_from, ticks_of, time_of_tick}
+use Rattle.run_rules.specs.Runs.{Lanes, after_drain, compositor_step, main_step}
 use Rattle.word_machine.specs.Courses.{Course, course_after, course_of, opening}
 use Rattle.word_machine.specs.Moments.{IsUnderWay, TicksAreLeft, model_count}
-use Rattle.word_machine.proofs.CompositorTurns.{last_tick_after, takes}
+use Rattle.word_machine.proofs.CompositorTurns.{last_tick_after}
 use Rattle.word_machine.proofs.Right.{course-append, lanes_of_course, next_compositor, next_main}
 
 -- ---- what is left
@@ -38,9 +40,7 @@ opening_under_way script well = record {
   allowed = well.edits;
   main_steps = omega arith;
   compositor_steps = omega arith;
-  order = well.order;
-  times = well.times;
-  ticks = λ tick h. h;
+  ticks = record { order = well.order; times = well.times; ticks = λ tick h. h };
 }
 
 -- ---- main's step
@@ -57,16 +57,7 @@ main-left_next course DrainStep left = refl
 
 pub counted-next : (course : Course) (step : StepOfMain) (left : List StepOfMain) (book : Book) → book.commits ≡ length course.lanes.main.commits → (book_after_step book step).commits ≡ length (next_main course (step ∷ left)).lanes.main.commits
 unfolding after_drain book_after
-counted-next course (EditStep change) left book is = edit-commits change ∙ is
-  where
-    edit-commits : (change : Change) → (book_after book change).commits ≡ book.commits
-    edit-commits (AddElement id look) = refl
-    edit-commits (RemoveElement id) = refl
-    edit-commits (SetOpacity id opacity) = refl
-    edit-commits (SetTransform id transform) = refl
-    edit-commits (AddTimeline id origin) = refl
-    edit-commits (AddModel model) = refl
-    edit-commits (RemoveModel id) = refl
+counted-next course (EditStep change) left book is = commits-edit book change ∙ is
 counted-next course CommitStep left book is =
     omega (arith, is, length-append course.lanes.main.commits (next_commit (length course.lanes.main.commits) course.lanes.main.tree ∷ []))
 counted-next course DrainStep left book is = is
@@ -80,8 +71,6 @@ main-way script course step left book last_tick is h =
       allowed = ap (are_allowed (book_after_step book step)) next ∙ (first-allowed book step left (ap (are_allowed book) (sym is) ∙ h.allowed)).1;
       main_steps = omega (arith, h.main_steps, length_is, ap length next);
       compositor_steps = h.compositor_steps;
-      order = h.order;
-      times = h.times;
       ticks = h.ticks;
     }
 
@@ -93,30 +82,31 @@ main_under_way script course step left book last_tick is h =
 -- ---- the compositor's step
 
 pub compositor-left_next : (course : Course) (step : CompositorStep) (left : List CompositorStep) → (next_compositor course (step ∷ left)).lanes.compositor.left ≡ left
-compositor-left_next course Pull left = go (takes course.lanes.compositor.pending course.lanes.compositor.pulled (newest_commit course.lanes.main.commits))
-  where
-    go : (taken : Bool) → (cond taken (with_pending (newest_commit course.lanes.main.commits) (record course.lanes.compositor { left = left })) (record course.lanes.compositor { left = left })).left ≡ left
-    go true = refl
-    go false = refl
-compositor-left_next course Activate left = go course.lanes.compositor.pending
-  where
-    go : (pending : Option Committed) → (after_activation pending (record course.lanes.compositor { left = left })).left ≡ left
-    go None = refl
-    go (Some pending) = refl
-compositor-left_next course (Tick time) left = refl
+compositor-left_next course step left = makes-left course.lanes.main.commits step (record course.lanes.compositor { left = left })
+
+-- a step that is no tick leaves all ticks
+no-tick : (script : ScriptLists) (step : CompositorStep) (left : List CompositorStep) (last_tick : ℕ) → time_of_tick step ≡ None → TicksAreLeft script (step ∷ left) last_tick → TicksAreLeft script left (last_tick_after step last_tick)
+no-tick script step left last_tick none h =
+    let same = ticks-left step left none in
+    subst (λ time. TicksAreLeft script left time) (sym (ap (λ time. unwrap_or time last_tick) none)) record {
+      order = ap (λ ticks. never_fall_from last_tick ticks) (sym same) ∙ h.order;
+      times = ap (λ ticks. are_at_most LAST_TIME ticks) (sym same) ∙ h.times;
+      ticks = subst (λ ticks. (tick : ℕ) → IsAmong tick ticks → IsAmong tick (ticks_of script.compositor)) same h.ticks;
+    }
 
 pub ticks_go_on : (script : ScriptLists) (step : CompositorStep) (left : List CompositorStep) (last_tick : ℕ) → TicksAreLeft script (step ∷ left) last_tick → TicksAreLeft script left (last_tick_after step last_tick)
-ticks_go_on script Pull left last_tick h = record { order = h.order; times = h.times; ticks = h.ticks }
-ticks_go_on script Activate left last_tick h = record { order = h.order; times = h.times; ticks = h.ticks }
-ticks_go_on script (Tick time) left last_tick h = record {
-  order = (and_parts (nat_le last_tick time) (never_fall_from time (ticks_of left)) h.order).1;
-  times = (and_parts (nat_le time LAST_TIME) (are_at_most LAST_TIME (ticks_of left)) h.times).1;
-  ticks = λ tick is. h.ticks tick (inr is);
-}
+ticks_go_on script step left last_tick h =
+    by_step (λ step. TicksAreLeft script (step ∷ left) last_tick → TicksAreLeft script left (last_tick_after step last_tick))
+    (λ step quiet. no-tick script step left last_tick (quiet-time step quiet)) (no-tick script Activate left last_tick refl)
+    (λ time h. record {
+      order = (and_parts (nat_le last_tick time) (never_fall_from time (ticks_of left)) h.order).1;
+      times = (and_parts (nat_le time LAST_TIME) (are_at_most LAST_TIME (ticks_of left)) h.times).1;
+      ticks = λ tick is. h.ticks tick (inr is);
+    }) step h
 
 pub ticks_left : (script : ScriptLists) (course : Course) (left : List CompositorStep) (book : Book) (last_tick : ℕ) → course.lanes.compositor.left ≡ left → IsUnderWay script course book last_tick → TicksAreLeft script left last_tick
 ticks_left script course left book last_tick is h =
-    subst (λ (steps : List CompositorStep). TicksAreLeft script steps last_tick) is (record { order = h.order; times = h.times; ticks = h.ticks })
+    subst (λ (steps : List CompositorStep). TicksAreLeft script steps last_tick) is h.ticks
 
 compositor-way : (script : ScriptLists) (course : Course) (step : CompositorStep) (left : List CompositorStep) (book : Book) (last_tick : ℕ) → course.lanes.compositor.left ≡ step ∷ left → IsUnderWay script course book last_tick → IsUnderWay script (next_compositor course (step ∷ left)) book (last_tick_after step last_tick)
 compositor-way script course step left book last_tick is h =
@@ -128,9 +118,7 @@ compositor-way script course step left book last_tick is h =
       allowed = h.allowed;
       main_steps = h.main_steps;
       compositor_steps = omega (arith, h.compositor_steps, length_is, ap length next);
-      order = ap (λ steps. never_fall_from (last_tick_after step last_tick) (ticks_of steps)) next ∙ go_on.order;
-      times = ap (λ steps. are_at_most LAST_TIME (ticks_of steps)) next ∙ go_on.times;
-      ticks = subst (λ (steps : List CompositorStep). (tick : ℕ) → IsAmong tick (ticks_of steps) → IsAmong tick (ticks_of script.compositor)) (sym next) go_on.ticks;
+      ticks = subst (λ (steps : List CompositorStep). TicksAreLeft script steps (last_tick_after step last_tick)) (sym next) go_on;
     }
 
 pub compositor_under_way : (script : ScriptLists) (course : Course) (step : CompositorStep) (left : List CompositorStep) (book : Book) (last_tick : ℕ) → course.lanes.compositor.left ≡ step ∷ left → IsUnderWay script course book last_tick → IsUnderWay script (course_after course Compositor) book (last_tick_after step last_tick)
@@ -191,10 +179,10 @@ bounded-next script well word letter =
 -- each model that is shown at a tick of the script has a local time for which timings are defined
 pub locals-fit : (script : ScriptLists) (lanes : Lanes) (tick : ℕ) → IsAmong tick (ticks_of script.compositor) → LocalTimesAreSmall script lanes → LocalTimesFit lanes.compositor.active.tree (shown_by lanes.compositor.marks) tick
 locals-fit script lanes tick among small =
-    all-from_among (λ model. IfSome (shown_by lanes.compositor.marks model.id) (λ s. unsigned_abs (local_time lanes.compositor.active.tree tick model s.start) ≤ LARGEST_LOCAL)) lanes.compositor.active.tree.models
+    all-from_among (λ model. IfSome (shown_by lanes.compositor.marks model.id) (λ s. unsigned_abs (local_time lanes.compositor.active.tree tick model s) ≤ LARGEST_LOCAL)) lanes.compositor.active.tree.models
     (λ model is. go model is (is_aborted lanes.compositor.marks model.id) (start_of lanes.compositor.marks model.id) refl)
   where
-    go : (model : Spec) → IsAmong model lanes.compositor.active.tree.models → (aborted : Bool) (start : Option Shown) → start_of lanes.compositor.marks model.id ≡ start → IfSome (cond aborted None start) (λ s. unsigned_abs (local_time lanes.compositor.active.tree tick model s.start) ≤ LARGEST_LOCAL)
+    go : (model : Spec) → IsAmong model lanes.compositor.active.tree.models → (aborted : Bool) (start : Option Shown) → start_of lanes.compositor.marks model.id ≡ start → IfSome (cond aborted None start) (λ s. unsigned_abs (local_time lanes.compositor.active.tree tick model s) ≤ LARGEST_LOCAL)
     go model is true start e = tt
     go model is false None e = tt
     go model is false (Some shown) e = small tick among model is shown e

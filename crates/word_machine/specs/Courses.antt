@@ -7,14 +7,15 @@ use Rattle.anim_names.specs.declared.lane.Lane.{Lane}
 use Rattle.anim_names.specs.declared.lane.Lane.TheVariants.{Main, Compositor}
 use Rattle.frame_exchange.specs.Journals.{Exchange}
 use Rattle.frame_exchange.specs.Sides.{CompositorState, MainState}
-use Rattle.tree_commit.specs.declared.runs.mark.Mark.{Mark}
-use Rattle.tree_commit.specs.declared.runs.compositor_step.CompositorStep.{CompositorStep}
-use Rattle.tree_commit.specs.declared.runs.compositor_step.CompositorStep.TheVariants.{Pull, Activate, Tick}
+use Rattle.run_rules.specs.declared.mark.Mark.{Mark}
+use Rattle.run_rules.specs.declared.compositor_step.CompositorStep.{CompositorStep}
+use Rattle.run_rules.specs.declared.compositor_step.CompositorStep.TheVariants.{Pull, Activate, Tick}
 use Rattle.tree_commit.specs.Edits.{Book}
 use Rattle.tree_commit.specs.Trees.{Committed}
-use Rattle.tree_commit.specs.Marks.{event_of, marks_of_tick, marks_of_activation}
-use Rattle.tree_commit.specs.Scripts.{StepOfMain, EditStep, CommitStep, DrainStep, ScriptLists}
-use Rattle.tree_commit.specs.Runs.{Lanes, MainLane, CompositorLane, beginning, after_letter, newest_commit, unheard_events}
+use Rattle.run_rules.specs.Marks.{event_of}
+use Rattle.run_rules.specs.Scripts.{StepOfMain, EditStep, CommitStep, DrainStep, ScriptLists}
+use Rattle.run_laws.specs.Steps.{marks_of_step}
+use Rattle.run_rules.specs.Runs.{Lanes, MainLane, CompositorLane, beginning, after_letter, newest_commit, unheard_events}
 
 -- ---- what a step notes
 
@@ -28,16 +29,6 @@ noted_by_main marks DrainStep lane = kind.Drain (length (unheard_events marks la
 abbrev pub number_pulled : Committed → CompositorLane → Option ℕ
 number_pulled newest lane =
     if is_none lane.pending && nat_lt lane.pulled newest.number then Some newest.number else None
-
--- the marks that a step of the compositor makes
-abbrev pub marks_of_pending : Option Committed → CompositorLane → List Mark
-marks_of_pending None lane = []
-marks_of_pending (Some pending) lane = marks_of_activation lane.active.tree pending lane.marks
-
-abbrev pub marks_of_step : CompositorStep → CompositorLane → List Mark
-marks_of_step Pull lane = []
-marks_of_step Activate lane = marks_of_pending lane.pending lane
-marks_of_step (Tick time) lane = marks_of_tick lane.active.tree lane.pending lane.marks time
 
 -- New marks are sent, and where there are none nothing is noted.
 abbrev pub sending : List Mark → List EntryKind
@@ -109,13 +100,13 @@ in_mailbox lanes =
 -- The board of a run, with this much room: its entries are those that the steps noted, its mailbox has the newest commit
 -- until that is pulled, and its events are those of the marks, of which main has heard the first.
 abbrev pub board_of : Course → ℕ → ℕ → Exchange
-board_of course room event_room = record {
+board_of course room queue_room = record {
   entries = course.entries;
   mailbox = in_mailbox course.lanes;
   queue = record {
     events = map event_of course.lanes.compositor.marks;
     heard = length course.lanes.main.heard;
-    room = event_room;
+    room = queue_room;
   };
   room = room;
 }

@@ -2,8 +2,8 @@
 use Rattle.std.specs.Prelude.{List, [], ◌∷◌, ◌++◌}
 use Rattle.anim_names.specs.Lists.{BeginsWith}
 use Rattle.anim_names.specs.declared.lane.Lane.{Lane}
-use Rattle.tree_commit.specs.Scripts.{ScriptLists}
-use Rattle.tree_commit.specs.Runs.{Lanes, report_of}
+use Rattle.run_rules.specs.Scripts.{ScriptLists}
+use Rattle.run_rules.specs.Runs.{Lanes, report_of}
 use Rattle.run_laws.specs.Ends.{AbortedWasActive, EndsOnce}
 use Rattle.run_laws.specs.Groups.{FinishesTogether, OneBlocker, StartsTogether, TargetsPresent}
 use Rattle.run_laws.specs.Hearing.{CountsAddUp, HeardOnce}

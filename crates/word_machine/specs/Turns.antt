@@ -7,11 +7,11 @@ use Rattle.anim_timeline.specs.Timelines.{IsTime}
 use Rattle.event_queue.specs.Queues.{unheard, with_all_heard}
 use Rattle.frame_exchange.specs.Journals.{Exchange, drain_entry, finds_nothing, last_upto, mailbox_after_pull, publish_entry, published, pull_entry, reply_to_pull, send_entry}
 use Rattle.frame_exchange.specs.Sides.{CompositorState, IsCompositorComplete, IsMainComplete, MainState, commit_of, compositor_after_activation, compositor_after_place, compositor_after_pull, compositor_after_send, compositor_after_tick, main_after_build, main_after_drain, main_after_edit, main_after_hearing, main_after_publish, marks_with_tick, news_of, slot_of}
-use Rattle.tree_commit.specs.declared.runs.compositor_step.CompositorStep.{CompositorStep}
-use Rattle.tree_commit.specs.declared.runs.compositor_step.CompositorStep.TheVariants.{Pull, Activate, Tick}
-use Rattle.tree_commit.specs.Follows.{Follows, KnowsAtMost}
-use Rattle.tree_commit.specs.Frames.{DrawnFrame, LocalTimesFit, frame_at, shown_by}
-use Rattle.tree_commit.specs.Scripts.{StepOfMain, EditStep, CommitStep, DrainStep, is_allowed}
+use Rattle.run_rules.specs.declared.compositor_step.CompositorStep.{CompositorStep}
+use Rattle.run_rules.specs.declared.compositor_step.CompositorStep.TheVariants.{Pull, Activate, Tick}
+use Rattle.run_rules.specs.Follows.{Follows, KnowsAtMost}
+use Rattle.run_rules.specs.Frames.{DrawnFrame, LocalTimesFit, frame_at, shown_by}
+use Rattle.run_rules.specs.Scripts.{StepOfMain, EditStep, CommitStep, DrainStep, is_allowed, time_of_tick}
 use Rattle.tree_commit.specs.Trees.{Committed}
 
 -- ---- main
@@ -127,9 +127,12 @@ board_after_compositor Pull compositor board = record board {
 board_after_compositor Activate compositor board = board_told (compositor_after_activation compositor) board
 board_after_compositor (Tick time) compositor board = board_told (compositor_after_tick compositor time) board
 
--- the frames with that of the step, which a side in this state draws
-abbrev pub frames_with : CompositorStep → CompositorState → List DrawnFrame → List DrawnFrame
-frames_with Pull compositor frames = frames
-frames_with Activate compositor frames = frames
-frames_with (Tick time) compositor frames =
+-- the frames with that of a tick of this time, which a side in this state draws
+abbrev pub frames_with_tick : Option ℕ → CompositorState → List DrawnFrame → List DrawnFrame
+frames_with_tick None compositor frames = frames
+frames_with_tick (Some time) compositor frames =
     frames ++ frame_at compositor.active (marks_with_tick compositor time) time ∷ []
+
+-- the frames with that of the step, where it is a tick
+abbrev pub frames_with : CompositorStep → CompositorState → List DrawnFrame → List DrawnFrame
+frames_with step compositor frames = frames_with_tick (time_of_tick step) compositor frames

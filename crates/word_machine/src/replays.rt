@@ -3,17 +3,17 @@
 ghost use Rattle.std.specs.Prelude.{◌≡◌, ◌+◌, ◌<◌, ◌≤◌, ◌^◌, [], ◌∷◌, ◌++◌, IfOk, OnOk, length};
 ghost use Rattle.event_queue.specs.Queues.{unheard};
 ghost use Rattle.frame_exchange.specs.Sides.{IsMainComplete};
-ghost use Rattle.tree_commit.specs.Runs.{report_of};
+ghost use Rattle.run_rules.specs.Runs.{report_of};
 ghost use Rattle.word_machine.specs.Laws.{KeepsLaws};
-ghost use Rattle.word_machine.specs.Moments.{IsAt, MayReplay};
+ghost use Rattle.word_machine.specs.Moments.{IsAt, Leaves, MayReplay, heard_out};
 
 use crate::turns::{turn_of_compositor, turn_of_main};
 use anim_names::Lane;
+use element_samples::Frame;
 use frame_exchange::{Board, CompositorSteps, MainSteps};
 use frame_report::Report;
 use frame_script::Script;
 use std::alloc::{AllocError, Global};
-use tree_commit::Frame;
 
 /// Makes the steps of both lanes in the order of the script's word, and then the closing drain, and gives the report.
 ///
@@ -28,6 +28,9 @@ pub fn replay<M: MainSteps, C: CompositorSteps>(
     requires { MayReplay script.now (M.state main.old) (C.state compositor.old) board.old }
     ensures report { IfOk result (λ report. report ≡ report_of script.now script.now.word) }
     ensures laws { IfOk result (λ report. KeepsLaws script.now report.word) }
+
+    // The board has the whole journal and every event of the run, and the sides are where the run ends.
+    ensures left { IfOk result (λ _. Leaves script.now script.now.word (M.state main.new) (C.state compositor.new) board.new) }
 {
     let _kept = script.main();
     let mut counts = Vec::new(alloc);
@@ -82,7 +85,8 @@ pub fn close<M: MainSteps>(
     requires complete { IsMainComplete (M.state main.old) }
     requires batch_room { length (unheard board.now.queue) ≤ (M.state main.old).room }
     requires few { (M.state main.old).heard + length (unheard board.now.queue) < 2 ^ 32 }
-    ensures { OnOk result (counts.new.items ≡ counts.old.items ++ ((M.state main.old).heard + length (unheard board.now.queue)) ∷ []) }
+    ensures counts { OnOk result (counts.new.items ≡ counts.old.items ++ ((M.state main.old).heard + length (unheard board.now.queue)) ∷ []) }
+    ensures main { M.state main.new ≡ heard_out (M.state main.old) (unheard board.now.queue) }
 {
     main.drain_last(board);
     main.hear();

@@ -5,13 +5,16 @@ ghost use Rattle.anim_names.specs.declared.lane.Lane.{Lane};
 ghost use Rattle.anim_names.specs.declared.limit.TheConstants.{MOST_STEPS};
 ghost use Rattle.frame_exchange.specs.Journals.{last_upto};
 ghost use Rattle.frame_exchange.specs.Sides.{IsMainComplete, compositor_after_send, main_after_edit};
-ghost use Rattle.tree_commit.specs.Scripts.{EditStep, is_allowed};
-ghost use Rattle.tree_commit.specs.Views.{change_of, step_of};
+ghost use Rattle.run_rules.specs.Scripts.{EditStep, is_allowed};
+ghost use Rattle.tree_commit.specs.Views.{change_of};
+ghost use Rattle.run_rules.specs.Views.{step_of};
 ghost use Rattle.word_machine.specs.Turns.{MayMakeCompositor, MayMakeMain, MaySend, board_after_compositor, board_after_main, board_told, compositor_turned, counts_with, frames_with, main_turned};
 
+use element_samples::Frame;
 use frame_exchange::{Board, CompositorSteps, MainSteps};
+use run_rules::{CompositorStep, MainStep};
 use std::alloc::AllocError;
-use tree_commit::{CompositorStep, Edit, EditFault, Frame, MainStep};
+use tree_commit::{Edit, EditFault};
 
 /// Makes a step of main. A drain puts how many events main has heard behind the counts.
 pub(crate) fn turn_of_main<M: MainSteps>(

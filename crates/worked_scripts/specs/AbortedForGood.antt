@@ -2,26 +2,27 @@
 -- the commit and fills both ways, and it never starts again.
 use Rattle.std.specs.Prelude.{pos, [], ◌∷◌, codes}
 use Rattle.anim_names.specs.declared.event.AnimEvent.TheVariants.{Started, Aborted}
+use Rattle.anim_names.specs.declared.version.Version.TheVariants.{One}
 use Rattle.anim_delegate.specs.declared.policy.Policy.TheVariants.{Manual}
 use Rattle.micro_time.specs.declared.fill.Fill.TheVariants.{Both}
 use Rattle.keyframe_model.specs.Models.{PropertyCurve, OpacityCurve}
-use Rattle.tree_commit.specs.declared.runs.compositor_step.CompositorStep.TheVariants.{Pull, Activate, Tick}
-use Rattle.tree_commit.specs.Edits.{RemoveElement}
-use Rattle.tree_commit.specs.Scripts.{ScriptLists, EditStep, CommitStep}
-use Rattle.tree_commit.specs.Runs.{ReportLists}
-use Rattle.worked_scripts.specs.Pieces.{letters, timeline_1, element, model_of, added, runs, linear, frame, row}
+use Rattle.run_rules.specs.declared.compositor_step.CompositorStep.TheVariants.{Pull, Activate, Tick}
+use Rattle.run_rules.specs.Scripts.{ScriptLists, CommitStep}
+use Rattle.run_rules.specs.Runs.{ReportLists}
+use Rattle.worked_scripts.specs.Pieces.{letters, timeline_1, element, model_of, added, runs, linear, frame, row, element_gone}
 
 abbrev pub rising : PropertyCurve
 rising = OpacityCurve (linear 1000000 0 1000000)
 
 abbrev pub script : ScriptLists
 script = record {
+  version = One;
   main =
       timeline_1
       ∷ element 1 800000
       ∷ added (record (model_of 1 1 1 (runs 1000000 1000 Both) rising) { policy = Manual })
       ∷ CommitStep
-      ∷ EditStep (RemoveElement 1)
+      ∷ element_gone 1
       ∷ CommitStep
       ∷ element 1 900000
       ∷ CommitStep

@@ -4,15 +4,14 @@ use Rattle.std.specs.List.{range_with_len}
 use Rattle.anim_names.specs.declared.limit.LimitName.TheVariants.{Elements, Models}
 use Rattle.tree_commit.specs.declared.edits.refusal.EditRefusal.{EditRefusal}
 use Rattle.tree_commit.specs.declared.edits.refusal.EditRefusal.TheVariants.{Limit}
-use Rattle.tree_commit.specs.Edits.{RemoveElement}
-use Rattle.tree_commit.specs.Scripts.{StepOfMain, EditStep}
-use Rattle.worked_scripts.specs.Pieces.{timeline_1, element}
+use Rattle.run_rules.specs.Scripts.{StepOfMain}
+use Rattle.worked_scripts.specs.Pieces.{timeline_1, element, element_gone}
 use Rattle.worked_scripts.specs.RefusedEdits.{fade, move, model_on}
 
 -- One element comes and goes 256 times. Then it can come no more, and no other can.
 abbrev pub element_steps : List StepOfMain
 element_steps =
-    flat_map (λ time. element 1 1000000 ∷ EditStep (RemoveElement 1) ∷ []) (range_with_len 1 256)
+    flat_map (λ time. element 1 1000000 ∷ element_gone 1 ∷ []) (range_with_len 1 256)
     ++ (element 1 1000000 ∷ element 2 1000000 ∷ [])
 
 abbrev pub element_reasons : List (Option EditRefusal)

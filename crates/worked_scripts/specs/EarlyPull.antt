@@ -1,12 +1,14 @@
 -- A pull before any commit takes nothing, so the next pull can take the first commit.
 use Rattle.std.specs.Prelude.{[], ◌∷◌, codes}
-use Rattle.tree_commit.specs.declared.runs.compositor_step.CompositorStep.TheVariants.{Pull, Activate, Tick}
-use Rattle.tree_commit.specs.Scripts.{ScriptLists, CommitStep}
-use Rattle.tree_commit.specs.Runs.{ReportLists}
+use Rattle.anim_names.specs.declared.version.Version.TheVariants.{One}
+use Rattle.run_rules.specs.declared.compositor_step.CompositorStep.TheVariants.{Pull, Activate, Tick}
+use Rattle.run_rules.specs.Scripts.{ScriptLists, CommitStep}
+use Rattle.run_rules.specs.Runs.{ReportLists}
 use Rattle.worked_scripts.specs.Pieces.{letters, element, frame, row}
 
 abbrev pub script : ScriptLists
 script = record {
+  version = One;
   main = element 1 100000 ∷ CommitStep ∷ [];
   compositor = Pull ∷ Tick 0 ∷ Pull ∷ Activate ∷ Tick 0 ∷ [];
   word = letters (codes "CCMMCCC");

@@ -1,6 +1,7 @@
 -- The smallest script of the generator: an element fades and moves in steps, and the ticks begin before any commit.
 use Rattle.std.specs.Prelude.{pos, List, [], ◌∷◌, codes}
 use Rattle.anim_names.specs.declared.event.AnimEvent.TheVariants.{Started}
+use Rattle.anim_names.specs.declared.version.Version.TheVariants.{One}
 use Rattle.micro_time.specs.declared.direction.Direction.TheVariants.{Reverse}
 use Rattle.micro_time.specs.declared.fill.Fill.TheVariants.{Both}
 use Rattle.easing_fixed.specs.declared.easing.Easing.TheVariants.{Linear, Steps}
@@ -9,12 +10,11 @@ use Rattle.easing_fixed.specs.Steps.{step_parts}
 use Rattle.transform_ops.specs.declared.op.TransformOp.{TransformOp}
 use Rattle.curve_keys.specs.Curves.{Keyframes}
 use Rattle.keyframe_model.specs.Models.{OpacityCurve, TransformCurve}
-use Rattle.tree_commit.specs.declared.runs.compositor_step.CompositorStep.TheVariants.{Pull, Activate, Tick}
-use Rattle.tree_commit.specs.Edits.{AddElement}
-use Rattle.tree_commit.specs.Scripts.{ScriptLists, EditStep, CommitStep, DrainStep}
-use Rattle.tree_commit.specs.Runs.{ReportLists}
+use Rattle.run_rules.specs.declared.compositor_step.CompositorStep.TheVariants.{Pull, Activate, Tick}
+use Rattle.run_rules.specs.Scripts.{ScriptLists, CommitStep, DrainStep}
+use Rattle.run_rules.specs.Runs.{ReportLists}
 use Rattle.worked_scripts.specs.declared.TheConstants.{FADED_BACK}
-use Rattle.worked_scripts.specs.Pieces.{letters, timeline_1, model, runs, key, linear, moved, frame, row}
+use Rattle.worked_scripts.specs.Pieces.{letters, timeline_1, model, runs, key, linear, moved, frame, row, element_at}
 
 -- in four steps from one place to another
 abbrev pub stepping : Keyframes (List TransformOp)
@@ -25,9 +25,10 @@ stepping = record {
 
 abbrev pub script : ScriptLists
 script = record {
+  version = One;
   main =
       timeline_1
-      ∷ EditStep (AddElement 1 (record { opacity = 1000000; transform = moved 0 }))
+      ∷ element_at 1 1000000 (moved 0)
       ∷ model 1 1 (record (runs 101000 2000 Both) { direction = Reverse }) (OpacityCurve (linear 101000 1000000 0))
       ∷ model 2 1 (runs 200000 1000 Both) (TransformCurve stepping)
       ∷ CommitStep

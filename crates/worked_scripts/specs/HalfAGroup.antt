@@ -2,17 +2,18 @@
 -- group waits for: a group blocks with what it started, ended or not, until it finishes.
 use Rattle.std.specs.Prelude.{pos, [], ◌∷◌, codes}
 use Rattle.anim_names.specs.declared.event.AnimEvent.TheVariants.{Started, Finished, Aborted}
+use Rattle.anim_names.specs.declared.version.Version.TheVariants.{One}
 use Rattle.micro_time.specs.declared.fill.Fill.TheVariants.{Neither}
 use Rattle.keyframe_model.specs.Models.{OpacityCurve, TransformCurve}
-use Rattle.tree_commit.specs.declared.runs.compositor_step.CompositorStep.TheVariants.{Pull, Activate, Tick}
-use Rattle.tree_commit.specs.Edits.{RemoveModel}
-use Rattle.tree_commit.specs.Scripts.{ScriptLists, EditStep, CommitStep}
-use Rattle.tree_commit.specs.Runs.{ReportLists}
+use Rattle.run_rules.specs.declared.compositor_step.CompositorStep.TheVariants.{Pull, Activate, Tick}
+use Rattle.run_rules.specs.Scripts.{ScriptLists, CommitStep}
+use Rattle.run_rules.specs.Runs.{ReportLists}
 use Rattle.worked_scripts.specs.declared.TheConstants.{BLOCKED_UNTIL}
-use Rattle.worked_scripts.specs.Pieces.{letters, timeline_1, element, model, runs, linear, moved, frame, row}
+use Rattle.worked_scripts.specs.Pieces.{letters, timeline_1, element, model, runs, linear, moved, frame, row, model_gone}
 
 abbrev pub script : ScriptLists
 script = record {
+  version = One;
   main =
       timeline_1
       ∷ element 1 1000000
@@ -20,7 +21,7 @@ script = record {
       ∷ model 2 1 (runs 3000 1000 Neither) (TransformCurve (linear 3000 (moved 0) (moved 3000)))
       ∷ model 3 2 (runs 1000 1000 Neither) (OpacityCurve (linear 1000 500000 0))
       ∷ CommitStep
-      ∷ EditStep (RemoveModel 1)
+      ∷ model_gone 1
       ∷ CommitStep
       ∷ [];
   compositor = Pull ∷ Activate ∷ Tick 0 ∷ Pull ∷ Activate ∷ Tick 1000 ∷ Tick 3000 ∷ [];

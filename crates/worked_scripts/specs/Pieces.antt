@@ -12,10 +12,10 @@ use Rattle.transform_ops.specs.declared.op.TransformOp.{TransformOp}
 use Rattle.transform_ops.specs.declared.op.TransformOp.TheVariants.{Translate}
 use Rattle.curve_keys.specs.declared.key.Key.{Key}
 use Rattle.curve_keys.specs.Curves.{Keyframes}
-use Rattle.keyframe_model.specs.Models.{Spec, PropertyCurve}
-use Rattle.tree_commit.specs.Edits.{AddElement, AddModel, AddTimeline}
-use Rattle.tree_commit.specs.Scripts.{StepOfMain, EditStep}
-use Rattle.tree_commit.specs.Frames.{DrawnFrame, DrawnRow}
+use Rattle.keyframe_model.specs.Models.{Spec, PropertyCurve, OpacityValue}
+use Rattle.tree_commit.specs.Edits.{AddElement, AddModel, AddTimeline, OnElements, OnModels, OnTimelines, RemoveElement, RemoveModel, SetOwn}
+use Rattle.run_rules.specs.Scripts.{StepOfMain, EditStep}
+use Rattle.run_rules.specs.Frames.{DrawnFrame, DrawnRow}
 
 -- ---- words
 
@@ -28,13 +28,33 @@ letters codes = map lane_of codes
 
 -- ---- steps of main
 
--- a timeline that shows 0 at tick 0
+-- a timeline that shows 0 at this tick
+abbrev pub timeline : ℕ → ℕ → StepOfMain
+timeline id origin = EditStep (OnTimelines (AddTimeline id origin))
+
+-- timeline 1, which shows 0 at tick 0
 abbrev pub timeline_1 : StepOfMain
-timeline_1 = EditStep (AddTimeline 1 0)
+timeline_1 = timeline 1 0
+
+-- an element of this opacity and this transform
+abbrev pub element_at : ℕ → ℕ → List TransformOp → StepOfMain
+element_at id opacity transform = EditStep (OnElements (AddElement id (record { opacity = opacity; transform = transform })))
 
 -- an element of this opacity, in its place
 abbrev pub element : ℕ → ℕ → StepOfMain
-element id opacity = EditStep (AddElement id (record { opacity = opacity; transform = [] }))
+element id opacity = element_at id opacity []
+
+-- the element is made this opaque by itself
+abbrev pub own_opacity : ℕ → ℕ → StepOfMain
+own_opacity id opacity = EditStep (OnElements (SetOwn id (OpacityValue opacity)))
+
+-- the element is removed
+abbrev pub element_gone : ℕ → StepOfMain
+element_gone id = EditStep (OnElements (RemoveElement id))
+
+-- the model is removed
+abbrev pub model_gone : ℕ → StepOfMain
+model_gone id = EditStep (OnModels (RemoveModel id))
 
 -- a model of an element on timeline 1, without a given start, which main drops once it has ended
 abbrev pub model_of : ℕ → ℕ → ℕ → TimingParts → PropertyCurve → Spec
@@ -50,7 +70,7 @@ model_of element id group timing curve = record {
 }
 
 abbrev pub added : Spec → StepOfMain
-added model = EditStep (AddModel model)
+added model = EditStep (OnModels (AddModel model))
 
 -- such a model of element 1
 abbrev pub model : ℕ → ℕ → TimingParts → PropertyCurve → StepOfMain
@@ -78,4 +98,4 @@ abbrev pub frame : ℕ → ℕ → List DrawnRow → DrawnFrame
 frame time commit rows = record { time = time; commit = commit; rows = rows }
 
 abbrev pub row : ℕ → ℕ → List TransformOp → DrawnRow
-row element opacity transform = record { element = element; opacity = opacity; transform = transform }
+row element opacity transform = record { element = element; look = record { opacity = opacity; transform = transform } }

@@ -2,16 +2,16 @@
 -- has the models that their policies keep, and of those the finished one fills.
 use Rattle.std.specs.Prelude.{ℕ, pos, List, [], ◌∷◌, codes, map}
 use Rattle.anim_names.specs.declared.event.AnimEvent.TheVariants.{Started, Finished, Aborted}
+use Rattle.anim_names.specs.declared.version.Version.TheVariants.{One}
 use Rattle.anim_delegate.specs.declared.policy.Policy.{Policy}
 use Rattle.anim_delegate.specs.declared.policy.Policy.TheVariants.{Auto, FinishedOnly, Manual}
 use Rattle.micro_time.specs.declared.fill.Fill.TheVariants.{Both}
 use Rattle.keyframe_model.specs.Models.{PropertyCurve, OpacityCurve}
-use Rattle.tree_commit.specs.declared.runs.compositor_step.CompositorStep.TheVariants.{Pull, Activate, Tick}
-use Rattle.tree_commit.specs.Edits.{RemoveElement}
-use Rattle.tree_commit.specs.Scripts.{StepOfMain, ScriptLists, EditStep, CommitStep, DrainStep}
-use Rattle.tree_commit.specs.Runs.{ReportLists, Lanes, beginning, after}
-use Rattle.worked_scripts.specs.declared.TheConstants.{HELD, KEPT_AFTER_ITS_ABORT}
-use Rattle.worked_scripts.specs.Pieces.{letters, timeline_1, element, model_of, added, runs, linear, frame, row}
+use Rattle.run_rules.specs.declared.compositor_step.CompositorStep.TheVariants.{Pull, Activate, Tick}
+use Rattle.run_rules.specs.Scripts.{StepOfMain, ScriptLists, CommitStep, DrainStep}
+use Rattle.run_rules.specs.Runs.{ReportLists, beginning, after}
+use Rattle.worked_scripts.specs.declared.TheConstants.{SHOWN_BY_ITS_FILL, KEPT_AFTER_ITS_ABORT}
+use Rattle.worked_scripts.specs.Pieces.{letters, timeline_1, element, model_of, added, runs, linear, frame, row, element_gone}
 
 abbrev pub half_way : PropertyCurve
 half_way = OpacityCurve (linear 1000 0 500000)
@@ -22,6 +22,7 @@ model_under id policy = added (record (model_of id id id (runs 1000 1000 Both) h
 
 abbrev pub script : ScriptLists
 script = record {
+  version = One;
   main =
       timeline_1
       ∷ element 1 1000000
@@ -37,9 +38,9 @@ script = record {
       ∷ model_under 5 FinishedOnly
       ∷ model_under 6 Manual
       ∷ CommitStep
-      ∷ EditStep (RemoveElement 4)
-      ∷ EditStep (RemoveElement 5)
-      ∷ EditStep (RemoveElement 6)
+      ∷ element_gone 4
+      ∷ element_gone 5
+      ∷ element_gone 6
       ∷ CommitStep
       ∷ DrainStep
       ∷ CommitStep
@@ -61,7 +62,7 @@ report = record {
   frames =
       frame 0 1 (row 1 0 [] ∷ row 2 0 [] ∷ row 3 0 [] ∷ row 4 0 [] ∷ row 5 0 [] ∷ row 6 0 [] ∷ [])
       ∷ frame 1000 2 (row 1 500000 [] ∷ row 2 500000 [] ∷ row 3 500000 [] ∷ [])
-      ∷ frame 2000 3 (row 1 1000000 [] ∷ row 2 1000000 [] ∷ row 3 HELD [] ∷ [])
+      ∷ frame 2000 3 (row 1 1000000 [] ∷ row 2 1000000 [] ∷ row 3 SHOWN_BY_ITS_FILL [] ∷ [])
       ∷ [];
   events =
       Started 1 1 0 (pos 0)

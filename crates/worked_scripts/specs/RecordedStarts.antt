@@ -2,21 +2,22 @@
 -- given start are before their iterations: the one that fills backwards shows its first value, the other nothing.
 use Rattle.std.specs.Prelude.{pos, neg_ℤ, [], ◌∷◌, Some, codes}
 use Rattle.anim_names.specs.declared.event.AnimEvent.TheVariants.{Started}
+use Rattle.anim_names.specs.declared.version.Version.TheVariants.{One}
 use Rattle.micro_time.specs.declared.fill.Fill.TheVariants.{Neither, Forwards, Backwards}
 use Rattle.keyframe_model.specs.Models.{PropertyCurve, OpacityCurve}
-use Rattle.tree_commit.specs.declared.runs.compositor_step.CompositorStep.TheVariants.{Pull, Activate, Tick}
-use Rattle.tree_commit.specs.Edits.{AddTimeline}
-use Rattle.tree_commit.specs.Scripts.{ScriptLists, EditStep, CommitStep}
-use Rattle.tree_commit.specs.Runs.{ReportLists}
-use Rattle.worked_scripts.specs.Pieces.{letters, element, model, model_of, added, runs, linear, frame, row}
+use Rattle.run_rules.specs.declared.compositor_step.CompositorStep.TheVariants.{Pull, Activate, Tick}
+use Rattle.run_rules.specs.Scripts.{ScriptLists, CommitStep}
+use Rattle.run_rules.specs.Runs.{ReportLists}
+use Rattle.worked_scripts.specs.Pieces.{letters, element, model, model_of, added, runs, linear, frame, row, timeline}
 
 abbrev pub fading : PropertyCurve
 fading = OpacityCurve (linear 1000 300000 0)
 
 abbrev pub script : ScriptLists
 script = record {
+  version = One;
   main =
-      EditStep (AddTimeline 1 1000)
+      timeline 1 1000
       ∷ element 1 1000000
       ∷ element 2 1000000
       ∷ element 3 1000000

@@ -6,9 +6,9 @@ use Rattle.micro_time.specs.declared.fill.Fill.TheVariants.{Neither}
 use Rattle.keyframe_model.specs.Models.{PropertyCurve, OpacityCurve, TransformCurve}
 use Rattle.tree_commit.specs.declared.edits.refusal.EditRefusal.{EditRefusal}
 use Rattle.tree_commit.specs.declared.edits.refusal.EditRefusal.TheVariants.{ElementThere, ElementNotThere, ModelIdUsed, ModelUnknown, TimelineThere, TimelineUnknown, GroupClosed, GroupMixed, Limit}
-use Rattle.tree_commit.specs.Edits.{Book, edit_refusal, book_after, book_after_commit, RemoveElement, SetOpacity, AddTimeline, RemoveModel}
-use Rattle.tree_commit.specs.Scripts.{StepOfMain, EditStep, CommitStep, DrainStep}
-use Rattle.worked_scripts.specs.Pieces.{timeline_1, element, model_of, added, runs, linear, moved}
+use Rattle.tree_commit.specs.Edits.{Book, edit_refusal, book_after, book_after_commit}
+use Rattle.run_rules.specs.Scripts.{StepOfMain, EditStep, CommitStep, DrainStep}
+use Rattle.worked_scripts.specs.Pieces.{timeline_1, element, model_of, added, runs, linear, moved, element_gone, model_gone, own_opacity, timeline}
 
 -- why each edit is refused, if it is; one that is refused changes nothing
 abbrev pub refusals : Book → List StepOfMain → List (Option EditRefusal)
@@ -39,8 +39,8 @@ abbrev pub steps : List StepOfMain
 steps =
     element 1 1000000
     ∷ element 1 1000000
-    ∷ EditStep (SetOpacity 2 500000)
-    ∷ EditStep (RemoveElement 2)
+    ∷ own_opacity 2 500000
+    ∷ element_gone 2
     ∷ timeline_1
     ∷ timeline_1
     ∷ model_on 1 1 1 2 fade
@@ -49,13 +49,13 @@ steps =
     ∷ model_on 2 1 1 1 fade
     ∷ model_on 2 1 2 1 move
     ∷ model_from 2 1 1 500 move
-    ∷ EditStep (RemoveModel 2)
-    ∷ EditStep (RemoveModel 1)
+    ∷ model_gone 2
+    ∷ model_gone 1
     ∷ model_on 1 1 1 1 move
     ∷ model_on 2 1 1 1 fade
     ∷ CommitStep
     ∷ model_on 2 1 1 1 move
-    ∷ map (λ id. EditStep (AddTimeline id 0)) (range_with_len 2 64)
+    ∷ map (λ id. timeline id 0) (range_with_len 2 64)
 
 abbrev pub reasons : List (Option EditRefusal)
 reasons =

@@ -1,13 +1,13 @@
 -- One script in several orders of its lanes, which show different commits.
 use Rattle.std.specs.Prelude.{pos, List, [], ◌∷◌, codes}
 use Rattle.anim_names.specs.declared.lane.Lane.{Lane}
+use Rattle.anim_names.specs.declared.version.Version.TheVariants.{One}
 use Rattle.transform_ops.specs.declared.op.TransformOp.{TransformOp}
 use Rattle.transform_ops.specs.declared.op.TransformOp.TheVariants.{Skew}
-use Rattle.tree_commit.specs.declared.runs.compositor_step.CompositorStep.TheVariants.{Pull, Activate, Tick}
-use Rattle.tree_commit.specs.Edits.{AddElement}
-use Rattle.tree_commit.specs.Scripts.{ScriptLists, EditStep, CommitStep}
-use Rattle.tree_commit.specs.Runs.{ReportLists}
-use Rattle.worked_scripts.specs.Pieces.{letters, element, frame, row}
+use Rattle.run_rules.specs.declared.compositor_step.CompositorStep.TheVariants.{Pull, Activate, Tick}
+use Rattle.run_rules.specs.Scripts.{ScriptLists, CommitStep}
+use Rattle.run_rules.specs.Runs.{ReportLists}
+use Rattle.worked_scripts.specs.Pieces.{letters, element, frame, row, element_at}
 
 abbrev pub slanted : List TransformOp
 slanted = Skew (pos 1) (pos 2) ∷ []
@@ -15,10 +15,11 @@ slanted = Skew (pos 1) (pos 2) ∷ []
 -- main's steps all come first
 abbrev pub script : ScriptLists
 script = record {
+  version = One;
   main =
       element 1 100000
       ∷ CommitStep
-      ∷ EditStep (AddElement 2 (record { opacity = 200000; transform = slanted }))
+      ∷ element_at 2 200000 slanted
       ∷ CommitStep
       ∷ [];
   compositor = Pull ∷ Activate ∷ Tick 0 ∷ Tick 1000 ∷ [];

@@ -2,16 +2,18 @@
 -- for the whole group: it starts in the tick in which the group finishes.
 use Rattle.std.specs.Prelude.{pos, [], ◌∷◌, codes}
 use Rattle.anim_names.specs.declared.event.AnimEvent.TheVariants.{Started, Finished}
+use Rattle.anim_names.specs.declared.version.Version.TheVariants.{One}
 use Rattle.micro_time.specs.declared.fill.Fill.TheVariants.{Neither}
 use Rattle.keyframe_model.specs.Models.{OpacityCurve, TransformCurve}
-use Rattle.tree_commit.specs.declared.runs.compositor_step.CompositorStep.TheVariants.{Pull, Activate, Tick}
-use Rattle.tree_commit.specs.Scripts.{ScriptLists, CommitStep}
-use Rattle.tree_commit.specs.Runs.{ReportLists}
+use Rattle.run_rules.specs.declared.compositor_step.CompositorStep.TheVariants.{Pull, Activate, Tick}
+use Rattle.run_rules.specs.Scripts.{ScriptLists, CommitStep}
+use Rattle.run_rules.specs.Runs.{ReportLists}
 use Rattle.worked_scripts.specs.declared.TheConstants.{FREED_AT}
 use Rattle.worked_scripts.specs.Pieces.{letters, timeline_1, element, model, runs, linear, moved, frame, row}
 
 abbrev pub script : ScriptLists
 script = record {
+  version = One;
   main =
       timeline_1
       ∷ element 1 1000000

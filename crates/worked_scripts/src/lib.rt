@@ -23,7 +23,7 @@ pub const FREED_AT: u64 = 3_000;
 pub const FADED_BACK: u32 = 165_019;
 
 /// The opacity that a finished model's fill shows as long as main keeps the model.
-pub const HELD: u32 = 500_000;
+pub const SHOWN_BY_ITS_FILL: u32 = 500_000;
 
 /// The model that was aborted and stays in main's tree, since its policy drops finished ones alone.
 pub const KEPT_AFTER_ITS_ABORT: u32 = 5;

@@ -2,8 +2,8 @@
 #![tactic(auto, unfolding(crate::proofs::Opened::whole_run))]
 
 ghost use Rattle.std.specs.Prelude.{◌≡◌};
-ghost use Rattle.tree_commit.specs.Runs.{report_of};
-ghost use Rattle.tree_commit.specs.Scripts.{IsWellFormed};
+ghost use Rattle.run_rules.specs.Runs.{report_of};
+ghost use Rattle.run_rules.specs.Scripts.{IsWellFormed};
 ghost use Rattle.worked_scripts.specs.AbortedForGood as aborted_for_good;
 ghost use Rattle.worked_scripts.specs.DroppedModel as dropped_model;
 ghost use Rattle.worked_scripts.specs.DroppedWithElement as dropped_with_element;

@@ -1,45 +1,25 @@
+//! Edits of main's tree.
+
 use crate::Base;
 use anim_names::{ElementId, ModelId, TimelineId};
 use anim_timeline::Timeline;
-use keyframe_model::ModelSpec;
+use keyframe_model::{ModelSpec, SharedValue};
 use std::sync::Arc;
-use transform_ops::TransformList;
-use value_blend::Opacity;
 
 /// One change of main's tree.
 pub enum Edit {
     /// Adds an element, last.
-    AddElement {
-        id: ElementId,
-        base: Base,
-    },
+    AddElement { id: ElementId, base: Base },
     /// Removes an element. Its models stay.
-    RemoveElement {
-        id: ElementId,
-    },
-    /// Changes an element's own opacity.
-    SetOpacity {
-        id: ElementId,
-        opacity: Opacity,
-    },
-    /// Changes an element's own transform.
-    SetTransform {
-        id: ElementId,
-        transform: Arc<TransformList>,
-    },
+    RemoveElement { id: ElementId },
+    /// Changes an element's own value of one property.
+    SetOwn { id: ElementId, value: SharedValue },
     /// Adds a timeline, last. Timelines are never removed.
-    AddTimeline {
-        id: TimelineId,
-        timeline: Timeline,
-    },
+    AddTimeline { id: TimelineId, timeline: Timeline },
     /// Adds a keyframe model, last. Its element need not be in the tree.
-    AddModel {
-        spec: Arc<ModelSpec>,
-    },
+    AddModel { spec: Arc<ModelSpec> },
     /// Removes a model, where it is still in the tree.
-    RemoveModel {
-        id: ModelId,
-    },
+    RemoveModel { id: ModelId },
 }
 
 impl Drop for Edit {
@@ -47,10 +27,9 @@ impl Drop for Edit {
         match self {
             Edit::AddElement { id: _, base: _base } => {}
             Edit::RemoveElement { id: _ } => {}
-            Edit::SetOpacity { id: _, opacity: _ } => {}
-            Edit::SetTransform {
+            Edit::SetOwn {
                 id: _,
-                transform: _transform,
+                value: _value,
             } => {}
             Edit::AddTimeline { id: _, timeline: _ } => {}
             Edit::AddModel { spec: _spec } => {}

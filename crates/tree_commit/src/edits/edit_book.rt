@@ -1,10 +1,12 @@
-ghost use Rattle.std.specs.Prelude.{◌≡◌, ℕ, ◌==◌, ◌<◌, ◌≤◌, ◌+◌, [], ◌∷◌, ◌++◌, length, nat_le, nat_eq, find, false, None, Some, if◌then◌else◌, IfOk, OnOk, OnErr, IsSome};
+//! The book that edits are checked against.
+
+ghost use Rattle.std.specs.Prelude.{◌≡◌, ℕ, ◌==◌, ◌<◌, ◌≤◌, ◌+◌, [], ◌∷◌, ◌++◌, length, nat_le, nat_eq, false, None, Some, if◌then◌else◌, IfOk, OnOk, OnErr, IsSome};
 ghost use Rattle.std.specs.Map.{lookup};
 ghost use Rattle.std.specs.Result.{result_err};
 ghost use Rattle.anim_names.specs.declared.limit.LimitName.TheVariants.{Elements, Timelines};
-ghost use Rattle.keyframe_model.specs.Models.{Spec, property_of};
+ghost use Rattle.keyframe_model.specs.Models.{Spec};
 ghost use Rattle.tree_commit.specs.declared.edits.refusal.EditRefusal.TheVariants.{ElementThere, ElementNotThere, ModelUnknown, TimelineThere, Limit};
-ghost use Rattle.tree_commit.specs.Edits.{AddModel, book_after, book_after_commit, edit_refusal, is_closed, is_in, is_mixed, model_refusal, new_book, parts_of, with_member, without};
+ghost use Rattle.tree_commit.specs.Edits.{AddModel, OnModels, book_after, book_after_commit, edit_refusal, is_closed, is_in, is_mixed, model_refusal, new_book, parts_of, with_member, without};
 ghost use Rattle.tree_commit.specs.Books.{groups_from, HasParts};
 ghost use Rattle.tree_commit.specs.Views.{change_of};
 
@@ -50,7 +52,7 @@ impl Drop for EditBook {
 
 impl Model for EditBook {
     ghost use Rattle.std.specs.Prelude.{◌≤◌};
-    ghost use Rattle.anim_names.specs.declared.limit.TheConstants.{MOST_COMMITS};
+    ghost use Rattle.anim_names.specs.declared.limit.TheConstants.{MOST_COMMITS, MOST_ELEMENTS};
     ghost use Rattle.tree_commit.specs.Edits.{Book};
 
     ghost Value = { Book };
@@ -66,7 +68,7 @@ impl Model for EditBook {
       commits = b.commits;
     } };
 
-    ghost invariant = { λ b. b.commits ≤ MOST_COMMITS };
+    ghost invariant = { λ b. (b.commits ≤ MOST_COMMITS) × (b.elements_added ≤ MOST_ELEMENTS) };
 }
 
 impl EditBook {
@@ -106,7 +108,10 @@ impl EditBook {
 
     /// How often an element was added, an id that was there before included.
     pub fn elements_added(&self) -> u32
-        ensures { result ≡ self.now.elements_added }
+        ensures value { result ≡ self.now.elements_added }
+
+        // Of every book: no more elements than may be added.
+        ensures within { result ≤ MOST_ELEMENTS }
     {
         self.elements_added
     }
@@ -119,8 +124,7 @@ impl EditBook {
         match edit {
             Edit::AddElement { id, .. } => self.check_new_element(*id),
             Edit::RemoveElement { id } => self.check_element(*id),
-            Edit::SetOpacity { id, .. } => self.check_element(*id),
-            Edit::SetTransform { id, .. } => self.check_element(*id),
+            Edit::SetOwn { id, .. } => self.check_element(*id),
             Edit::AddTimeline { id, .. } => self.check_new_timeline(*id),
             Edit::AddModel { spec } => self.check_spec(spec),
             Edit::RemoveModel { id } => self.check_known_model(*id),
@@ -142,7 +146,7 @@ impl EditBook {
 
         // So it answers as `check` does of adding any model that has these parts.
         ensures as_check { (model : Spec) → HasParts model id group element timeline start property
-            → result_err result ≡ edit_refusal self.now (AddModel model) }
+            → result_err result ≡ edit_refusal self.now (OnModels (AddModel model)) }
     {
         self.check_parts(id, group, element, timeline, start, property)
     }
@@ -161,8 +165,7 @@ impl EditBook {
                 self.remove_element(*id);
                 Ok(())
             }
-            Edit::SetOpacity { .. } => Ok(()),
-            Edit::SetTransform { .. } => Ok(()),
+            Edit::SetOwn { .. } => Ok(()),
             Edit::AddTimeline { id, .. } => self.add_timeline(*id),
             Edit::AddModel { spec } => self.add_model(spec),
             Edit::RemoveModel { .. } => Ok(()),
@@ -221,7 +224,7 @@ impl EditBook {
     }
 
     fn check_spec(&self, spec: &ModelSpec) -> Result<(), EditRefusal>
-        ensures { result_err result ≡ edit_refusal self.now (AddModel spec.now) }
+        ensures { result_err result ≡ edit_refusal self.now (OnModels (AddModel spec.now)) }
     {
         self.check_model(
             spec.id(),

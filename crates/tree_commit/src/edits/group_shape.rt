@@ -1,7 +1,9 @@
+//! What the models of one group have in common. Which groups there are is the book's.
+
 ghost use Rattle.std.specs.Prelude.{◌≡◌, ℕ, ◌==◌, ◌&&◌, nat_eq, Some, IfOk, OnOk, OnErr};
 ghost use Rattle.std.specs.List.{list_any};
 ghost use Rattle.std.specs.Option.{option_eq};
-ghost use Rattle.keyframe_model.specs.Models.{same_property};
+ghost use Rattle.anim_names.specs.Properties.{is_property};
 ghost use Rattle.tree_commit.specs.Edits.{new_parts, with_property, is_closed, is_mixed};
 ghost use Rattle.tree_commit.specs.Books.{group_of};
 
@@ -84,7 +86,7 @@ impl GroupShape {
 
     // Whether a model of the group animates the property.
     fn has(&self, property: Property) -> bool
-        ensures { result ≡ list_any (same_property property) self.now.properties.items }
+        ensures { result ≡ list_any (is_property property) self.now.properties.items }
     {
         self.properties
             .iter()
@@ -94,7 +96,7 @@ impl GroupShape {
 
 // Whether the two are one property.
 pub(crate) fn is_same(property: Property, other: Property) -> bool
-    ensures { result ≡ same_property property other }
+    ensures { result ≡ is_property property other }
 {
     property == other
 }

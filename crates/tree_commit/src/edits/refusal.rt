@@ -1,3 +1,5 @@
+//! Why an edit is refused.
+
 use anim_names::LimitName;
 use std::error::Error;
 use std::fmt;

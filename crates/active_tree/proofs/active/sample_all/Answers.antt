@@ -1,9 +1,9 @@
 use Rattle.std.proofs.Common.{◌≡◌, map, Some, ap, subst, ◌∙◌}
 use Rattle.std.specs.Prelude.{slice_get}
 use Rattle.std.proofs.lemmas.List.{map-append}
-use Rattle.tree_commit.specs.Frames.{row_of}
+use Rattle.run_rules.specs.Frames.{row_of}
 use Rattle.tree_commit.specs.Trees.{Committed}
-use Rattle.tree_commit.specs.Views.{drawn_row_of}
+use Rattle.element_samples.specs.Views.{drawn_row_of}
 use Rattle.active_tree.proofs.RowLemmas.{take-next}
 use Rattle.active_tree.proofs.active.sample_all.Goals as goal
 

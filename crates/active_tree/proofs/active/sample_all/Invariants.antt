@@ -1,6 +1,6 @@
 use Rattle.std.proofs.Common.{◌≡◌, map, take}
-use Rattle.tree_commit.specs.Frames.{row_of}
-use Rattle.tree_commit.specs.Views.{drawn_row_of}
+use Rattle.run_rules.specs.Frames.{row_of}
+use Rattle.element_samples.specs.Views.{drawn_row_of}
 use Rattle.active_tree.proofs.active.sample_all.Given as goal
 
 abbrev pub invariant-loop-index : goal.invariant-loop-index

@@ -1,22 +1,22 @@
-use Rattle.std.proofs.Common.{◌≡◌, Some, sym, ap, subst, ◌∙◌}
+use Rattle.std.proofs.Common.{◌≡◌, Some, ◌∙◌, ap, subst, refl}
 use Rattle.std.specs.Prelude.{slice_get}
-use Rattle.std.proofs.lemmas.Option.{same_Some}
-use Rattle.std.proofs.lemmas.Result.{IfOk-weaker}
-use Rattle.tree_commit.specs.Samples.{value_in}
+use Rattle.run_rules.specs.Frames.{shown_with}
 use Rattle.tree_commit.specs.Trees.{Committed, Element}
-use Rattle.tree_commit.specs.Views.{drawn_row_of, look_of}
+use Rattle.tree_commit.specs.Views.{look_of}
+use Rattle.active_tree.specs.ElementModels.{listed_for}
+use Rattle.active_tree.specs.Samples.{animated_by, counts_of}
+use Rattle.active_tree.proofs.CountLemmas.{animated-counts}
 use Rattle.active_tree.proofs.RowLemmas.{row-shown}
 use Rattle.active_tree.proofs.sampling.sample_row.Goals as goal
 
 pub returns-clause-row : goal.returns-clause-row
 returns-clause-row g c =
-    let first : Element = record { id = c.element_at-element.result.0; look = look_of c.element_at-element.result.1.now } in
-    let second : Element = record { id = c.element_at.result.0; look = look_of c.element_at.result.1.now } in
-    let there = subst (λ (t : Committed). slice_get t.tree.elements c.args.place ≡ Some first) (c.deref.ensures ∙ c.commit.ensures) c.element_at-element.ensures in
-    let still = subst (λ (t : Committed). slice_get t.tree.elements c.args.place ≡ Some second) (c.deref-2.ensures ∙ c.commit-2.ensures ∙ c.sample_models.ensures.same) c.element_at.ensures in
-    let one = ap (λ (e : Element). e.id) (same_Some first second (sym there ∙ still)) in
-    let samples = c.in_ok-samples.ensures in
-    IfOk-weaker c.to_row.result _ _
-    (λ row. row-shown c.args.sampled.now.tree (g.S.StartTable.starts c.args.starts.now) c.args.time c.args.place first.id second (drawn_row_of row)
-    (value_in c.in_ok-samples.samples.opacity) (value_in c.in_ok-samples.samples.transform) still one samples.opacity samples.transform)
-    c.to_row.ensures
+    let tree = c.args.sampled.now.tree in
+    let starts = g.S.StartTable.starts c.args.starts.now in
+    let element : Element = record { id = c.element_at-element.result.0; look = look_of c.element_at-element.result.1.now } in
+    let there = subst (λ (t : Committed). slice_get t.tree.elements c.args.index ≡ Some element) (c.deref.ensures ∙ c.commit.ensures) c.element_at-element.ensures in
+    let list = listed_for element.id c.args.models.now in
+    let animated = animated_by tree starts c.args.time list in
+    row-shown tree starts c.args.time c.args.index element animated (look_of c.animate.new.shown) there
+    (λ property. animated-counts tree starts c.args.time element.id property list (counts_of tree starts c.args.time property list) (c.requires.lists element.id) refl)
+    (c.in_ok-animate.ensures.shown ∙ ap (shown_with animated) c.in_ok-shown.ensures.cases)

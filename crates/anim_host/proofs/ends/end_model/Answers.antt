@@ -8,7 +8,7 @@ twice false = refl
 
 pub end-requires-clause-last : goal.end-requires-clause-last
 end-requires-clause-last c =
-    runs-after c.args.standing.now.active.tree.models c.args.standing.now.list.marks c.args.mark c.args.model.now
-    c.vouch.ensures.fits c.requires.there c.requires.of c.requires.ends
+    runs-after c.args.standing.now.active.tree.models c.args.standing.now.list.marks c.args.what.now c.args.model.now
+    c.vouch.ensures.fits c.requires.there c.requires.ends
     ∙ sym c.others_run-others.ensures
     ∙ twice c.others_run-others.result

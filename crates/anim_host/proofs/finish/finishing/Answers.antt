@@ -1,5 +1,5 @@
 use Rattle.std.proofs.Common.{ap, sym, ◌∙◌}
-use Rattle.host_tables.specs.Shapes.{at_places}
+use Rattle.host_tables.specs.CommitGroups.{at_indices}
 use Rattle.anim_host.specs.Standing.{Stood}
 use Rattle.anim_host.proofs.TellLemmas.{none-finish}
 use Rattle.anim_host.proofs.finish.finishing.Goals as goal
@@ -12,7 +12,7 @@ gather-requires-clause-last c = ap (λ (s : Stood). s.last_tick) c.some_finish.e
 
 pub returns-else-some_finish-clause-models : goal.returns-else-some_finish-clause-models
 returns-else-some_finish-clause-models c =
-    ap (at_places c.args.active.now.tree.models) c.requires.none
+    ap (at_indices c.args.active.now.tree.models) c.requires.none
     ∙ sym (none-finish c.args.active.now.tree c.args.standing.now.list.marks c.args.tick (sym c.some_finish.ensures.finish ∙ c.if-some_finish.false))
 
 pub returns-then-some_finish-clause-models : goal.returns-then-some_finish-clause-models

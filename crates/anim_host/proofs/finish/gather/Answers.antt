@@ -4,16 +4,16 @@ use Rattle.std.specs.List.{AllByRecursion}
 use Rattle.keyframe_model.specs.Models.{Spec}
 use Rattle.tree_commit.specs.Trees.{has_model}
 use Rattle.anim_host.specs.Ticks.{finishes}
-use Rattle.host_tables.specs.Shapes.{at_places}
+use Rattle.host_tables.specs.CommitGroups.{at_indices}
 use Rattle.anim_host.specs.Standing.{Stood}
 use Rattle.host_tables.proofs.AmongLemmas.{found-there}
 use Rattle.host_tables.proofs.LoopLemmas.{made-last, made-next}
 use Rattle.anim_host.proofs.SettleLemmas.{at-pushed, below-pushed, gives-model}
 use Rattle.anim_host.proofs.finish.gather.Goals as goal
 
-at-most-one : (b : Bool) (place : ℕ) → length (if b then place ∷ [] else []) ≤ 1
-at-most-one true place = omega arith
-at-most-one false place = omega arith
+at-most-one : (b : Bool) (index : ℕ) → length (if b then index ∷ [] else []) ≤ 1
+at-most-one true index = omega arith
+at-most-one false index = omega arith
 
 pub finishes-is_finished-requires-clause-there : goal.finishes-is_finished-requires-clause-there
 finishes-is_finished-requires-clause-there c =
@@ -34,22 +34,22 @@ loop-index-preserved c =
     let old = c.args.standing.now in
     let same : c.loop-index.standing ≡ old = c.loop-index.invariant.0 in
     let test = finishes c.args.active.now.tree old.list.marks c.args.tick in
-    let items = c.loop-index.places.items in
+    let items = c.loop-index.indices.items in
     let test_is : c.finishes-is_finished.result ≡ test model = rw (c.deref.ensures, same) at c.finishes-is_finished.ensures.finishes in
-    let pushed : c.push_if.new.places.items ≡ items ++ (if test model then index ∷ [] else []) =
+    let pushed : c.push_if.new.indices.items ≡ items ++ (if test model then index ∷ [] else []) =
     c.push_if.ensures.items ∙ ap (λ (b : Bool). items ++ (if b then index ∷ [] else [])) test_is in
     let lt : index < length models = omega arith in
     let few = c.loop-index.invariant.3 in
     let one : length (if test model then index ∷ [] else []) ≤ 1 = at-most-one (test model) index in
-    let grown : length c.push_if.new.places.items ≡ length items + length (if test model then index ∷ [] else []) =
+    let grown : length c.push_if.new.indices.items ≡ length items + length (if test model then index ∷ [] else []) =
     ap (λ (l : List ℕ). length l) pushed ∙ length-append items (if test model then index ∷ [] else []) in (
       c.finishes-is_finished.ensures.same ∙ same,
-      made-next (λ (ms : List Spec). filter test ms) models index model (at_places models items) (at_places models c.push_if.new.places.items)
+      made-next (λ (ms : List Spec). filter test ms) models index model (at_indices models items) (at_indices models c.push_if.new.indices.items)
           (if test model then model ∷ [] else []) _
           c.model_at.ensures (gives-model test model (drop (index + 1) models) (test model))
-          (ap (at_places models) pushed ∙ at-pushed models items index model (test model) c.model_at.ensures)
+          (ap (at_indices models) pushed ∙ at-pushed models items index model (test model) c.model_at.ensures)
           c.loop-index.invariant.1,
-      subst (AllByRecursion (λ place. place < length models)) (sym pushed) (below-pushed (length models) index items (test model) lt c.loop-index.invariant.2),
+      subst (AllByRecursion (λ index. index < length models)) (sym pushed) (below-pushed (length models) index items (test model) lt c.loop-index.invariant.2),
       omega arith,
       rw c.push_if.ensures.room c.loop-index.invariant.4,
     )
@@ -57,4 +57,4 @@ loop-index-preserved c =
 pub returns-clause-models : goal.returns-clause-models
 returns-clause-models c =
     made-last (λ (ms : List Spec). filter (finishes c.args.active.now.tree c.args.standing.now.list.marks c.args.tick) ms)
-    c.args.active.now.tree.models c.loop-index.index (at_places c.args.active.now.tree.models c.loop-index.places.items) _ (omega arith) refl c.loop-index.invariant.1
+    c.args.active.now.tree.models c.loop-index.index (at_indices c.args.active.now.tree.models c.loop-index.indices.items) _ (omega arith) refl c.loop-index.invariant.1

@@ -1,6 +1,6 @@
 use Rattle.std.proofs.Common.{◌≡◌, ◌≤◌, ◌+◌, ℕ, [], take, length}
 use Rattle.std.specs.Prelude.{IfSome}
-use Rattle.tree_commit.specs.declared.runs.mark.Mark.{Mark}
+use Rattle.run_rules.specs.declared.mark.Mark.{Mark}
 use Rattle.host_tables.specs.Groups.{group_at, group_row_of}
 use Rattle.host_tables.specs.Rows.{marked_at}
 use Rattle.host_tables.specs.States.{FinishesStarted, row_for}

@@ -3,8 +3,8 @@ use Rattle.host_tables.specs.Rows.{marked_at, row_at, says_over}
 use Rattle.host_tables.specs.States.{is_among, row_for, state_of}
 use Rattle.keyframe_effect.specs.declared.state.RunState.TheVariants.{Waiting}
 use Rattle.keyframe_model.specs.Models.{Spec}
-use Rattle.tree_commit.specs.declared.runs.mark.Mark.{Mark}
-use Rattle.tree_commit.specs.Follows.{IsAmong}
+use Rattle.run_rules.specs.declared.mark.Mark.{Mark}
+use Rattle.anim_names.specs.Lists.{IsAmong}
 use Rattle.anim_host.proofs.standing.join_pending.Given as goal
 
 abbrev pub invariant-loop-index : goal.invariant-loop-index

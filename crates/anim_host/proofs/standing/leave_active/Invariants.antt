@@ -2,7 +2,7 @@ use Rattle.std.proofs.Common.{◌≡◌, ℕ, true, List, drop}
 use Rattle.host_tables.specs.Rows.{marked_at, row_at, says_over}
 use Rattle.host_tables.specs.States.{row_for}
 use Rattle.keyframe_model.specs.Models.{Spec}
-use Rattle.tree_commit.specs.declared.runs.mark.Mark.{Mark}
+use Rattle.run_rules.specs.declared.mark.Mark.{Mark}
 use Rattle.anim_host.proofs.standing.leave_active.Given as goal
 
 abbrev pub invariant-loop-index : goal.invariant-loop-index

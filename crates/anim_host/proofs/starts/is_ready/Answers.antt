@@ -1,4 +1,4 @@
 use Rattle.anim_host.proofs.starts.is_ready.Goals as goal
 
-pub is_ready-requires-clause-holds : goal.is_ready-requires-clause-holds
-is_ready-requires-clause-holds c = c.holds_group.ensures c.args.standing.now.pending c.requires.next
+pub is_ready-requires-clause-pending : goal.is_ready-requires-clause-pending
+is_ready-requires-clause-pending c = c.pending_has_group.ensures c.args.standing.now.pending c.requires.next

@@ -4,10 +4,10 @@ use Rattle.host_tables.specs.MarkLists.{with_marks}
 use Rattle.anim_host.specs.Standing.{Stood}
 use Rattle.tree_commit.specs.Trees.{Committed}
 use Rattle.std.proofs.Common.{Option}
-use Rattle.tree_commit.specs.Marks.{group_marks}
+use Rattle.run_rules.specs.Marks.{group_marks}
 use Rattle.anim_host.proofs.GrowLemmas.{stood-same}
-use Rattle.host_tables.proofs.LoopLemmas.{drop-found}
-use Rattle.host_tables.proofs.ShapeLemmas.{group-count, group-found}
+use Rattle.tree_commit.proofs.Among.{drop-found}
+use Rattle.host_tables.proofs.CommitGroupsLemmas.{group-count, group-found}
 use Rattle.anim_host.proofs.StartLemmas.{starting-last, starting-next}
 use Rattle.anim_host.proofs.starts.start_groups.Goals as goal
 
@@ -20,7 +20,7 @@ loop-index-preserved c =
     let old = c.args.standing.now in
     let now = c.loop-index.standing in
     let new = c.start_group.new.standing in
-    let found = drop-found groups index group (group-found tree.models c.args.shape.now index group c.requires.shape c.group_at.ensures) in
+    let found = drop-found groups index group (group-found tree.models c.args.groups.now index group c.requires.groups c.group_at.ensures) in
     let is : new.list ≡ with_marks now.list (group_marks tree old.pending now.list.marks c.args.tick group) =
     ap (λ (s : Stood). s.list) c.start_group.ensures.marks
     ∙ ap (λ (p : Option Committed). with_marks now.list (group_marks tree p now.list.marks c.args.tick group)) c.loop-index.invariant.2 in (
@@ -36,7 +36,7 @@ returns-clause-marks c =
     let tree = c.args.active.now.tree in
     let groups = groups_of tree in
     let old = c.args.standing.now in
-    let count = group-count tree.models c.args.shape.now c.requires.shape in
+    let count = group-count tree.models c.args.groups.now c.requires.groups in
     let test = c.loop-index-test.false in
     let all = c.group_count-index-end.ensures in
     let past : length groups ≤ c.loop-index.index = omega arith in

@@ -1,6 +1,7 @@
 use Rattle.std.proofs.Common.{◌≤◌, ◌+◌, length, arith}
+use Rattle.tree_commit.proofs.BookLemmas.{on_err}
 use Rattle.anim_top.specs.Outside.{most_read}
-use Rattle.anim_top.proofs.Moves.{HasGiven-then, on_err}
+use Rattle.anim_top.proofs.Moves.{HasGiven-then}
 use Rattle.anim_top.proofs.intake.read_bytes.Goals as goal
 
 pub returns-in_err-read_part-clause-lost : goal.returns-in_err-read_part-clause-lost

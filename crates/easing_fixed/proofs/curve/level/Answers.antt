@@ -1,18 +1,15 @@
 -- A height is far from the ends of 128 bits, and divided by the unit from those of 64.
-use Rattle.std.proofs.Common.{◌≡◌, ◌*◌, ◌≤◌, ℤ, pos, negsuc, unsigned_abs, arith}
+use Rattle.std.proofs.Common.{◌≡◌, ◌*◌, ◌≤◌, ℤ, pos, unsigned_abs, arith}
 use Rattle.std.specs.Int.{w32, int_div_euclid}
 use Rattle.std.proofs.lemmas.Int.{ints, to_z-of_z}
 use Rattle.anim_names.specs.declared.progress.TheConstants.{ONE}
 use Rattle.easing_fixed.specs.declared.TheConstants.{LARGEST_Y}
 use Rattle.easing_fixed.specs.Cubics.{unit}
+use Rattle.easing_fixed.proofs.Sizes.{divided-size}
 use Rattle.easing_fixed.proofs.curve.level.Goals as goal
 
-divided_size : (z : ℤ) → unsigned_abs z ≤ ONE * ONE * ONE * LARGEST_Y → unsigned_abs (int_div_euclid z (pos unit)) ≤ 10 * ONE
-divided_size (pos n) small = omega arith
-divided_size (negsuc n) small = omega arith
-
 level_size : (result height : ℤ) → result ≡ height → unsigned_abs result ≤ ONE * ONE * ONE * LARGEST_Y → unsigned_abs (int_div_euclid height (pos unit)) ≤ 10 * ONE
-level_size result height is small = rw (← is) (divided_size result small)
+level_size result height is small = rw (← is) (divided-size result small)
 
 pub height-requires-clause-first : goal.height-requires-clause-first
 height-requires-clause-first c = rw (to_z-of_z w32 c.args.y1 c.ranges.y1) c.requires.first

@@ -1,7 +1,7 @@
 use Rattle.std.proofs.Common.{ap, ◌∙◌, ◌++◌, string_bytes}
-use Rattle.tree_commit.specs.Views.{drawn_row_of}
+use Rattle.element_samples.specs.Views.{drawn_row_of}
 use Rattle.frame_report.specs.Texts.{row_line}
-use Rattle.frame_report.proofs.ListLemmas.{one_more}
+use Rattle.script_fields.proofs.TextLemmas.{one_more}
 use Rattle.frame_report.proofs.texts.print_frame.Goals as goal
 
 pub loop-i-preserved : goal.loop-i-preserved

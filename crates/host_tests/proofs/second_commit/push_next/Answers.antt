@@ -1,9 +1,9 @@
 use Rattle.std.proofs.Common.{◌≡◌, ◌∙◌, ℕ, List, ap, drop, map, subst}
 use Rattle.std.specs.Prelude.{All, IsTrue}
 use Rattle.anim_names.specs.declared.event.AnimEvent.{AnimEvent}
-use Rattle.tree_commit.specs.Follows.{Follows, KnowsAtMost}
-use Rattle.tree_commit.specs.Marks.{event_of}
-use Rattle.tree_commit.specs.Runs.{model_of_event}
+use Rattle.run_rules.specs.Follows.{Follows, KnowsAtMost}
+use Rattle.run_rules.specs.Marks.{event_of}
+use Rattle.run_rules.specs.Runs.{model_of_event}
 use Rattle.tree_commit.specs.Trees.{Committed, has_model}
 use Rattle.host_tests.specs.Steps.{GroupsAgree}
 use Rattle.host_tests.proofs.NextCommits.{follows_next, room_next}

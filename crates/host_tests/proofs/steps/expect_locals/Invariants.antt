@@ -10,4 +10,4 @@ use Rattle.host_tests.proofs.steps.expect_locals.Given as goal
 abbrev pub invariant-loop-i : goal.invariant-loop-i
 invariant-loop-i g l =
     (n : ℕ) (model : Spec) → n < l.i → slice_get l.commit.tree.models n ≡ Some model
-    → IfSome (shown_in l.host model.id) (λ s. unsigned_abs (local_time l.commit.tree l.time model s.start) ≤ LARGEST_LOCAL)
+    → IfSome (shown_in l.host model.id) (λ s. unsigned_abs (local_time l.commit.tree l.time model s) ≤ LARGEST_LOCAL)

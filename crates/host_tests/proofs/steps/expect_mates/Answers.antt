@@ -1,8 +1,8 @@
 use Rattle.std.proofs.Common.{◌≡◌, subst, arith}
 use Rattle.std.proofs.lemmas.Option.{slice_get_within}
 use Rattle.keyframe_model.specs.Models.{Spec}
-use Rattle.tree_commit.specs.Follows.{AgreeAsGroup}
-use Rattle.host_tests.proofs.Places.{one-more}
+use Rattle.run_rules.specs.Follows.{AgreeAsGroup}
+use Rattle.host_tests.proofs.Indices.{one-more}
 use Rattle.host_tests.proofs.steps.expect_mates.Goals as goal
 
 pub loop-j-preserved : goal.loop-j-preserved

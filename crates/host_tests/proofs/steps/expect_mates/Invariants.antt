@@ -1,7 +1,7 @@
 use Rattle.std.proofs.Common.{◌≡◌, ℕ, ◌<◌, Some}
 use Rattle.std.specs.List.{slice_get}
 use Rattle.keyframe_model.specs.Models.{Spec}
-use Rattle.tree_commit.specs.Follows.{AgreeAsGroup}
+use Rattle.run_rules.specs.Follows.{AgreeAsGroup}
 use Rattle.host_tests.proofs.steps.expect_mates.Given as goal
 
 abbrev pub invariant-loop-j : goal.invariant-loop-j

@@ -3,13 +3,13 @@ use Rattle.std.specs.Prelude.{◌-ℤ◌}
 use Rattle.std.specs.Option.{option_copied}
 use Rattle.std.proofs.lemmas.Int.{ints}
 use Rattle.tree_commit.specs.Trees.{local_time}
-use Rattle.tree_commit.proofs.SamplingLemmas.{local_time-found}
+use Rattle.tree_commit.proofs.TableLemmas.{local_time-found}
 use Rattle.host_tests.proofs.steps.local_time.Goals as goal
 
 pub returns : goal.returns
 returns g c =
     let found = sym (ap option_copied c.unwrap-timeline.ensures) ∙ c.timeline-2.ensures.origin in
-    let same = local_time-found c.args.commit.now.tree c.args.time c.args.model.now c.args.start c.unwrap-timeline.result.now (rw c.timeline.ensures at found) in
-    let exact : c.time_of.result -ℤ c.args.start ≡ local_time c.args.commit.now.tree c.args.time c.args.model.now c.args.start = rw c.time_of.ensures.value (sym same) in
+    let same = local_time-found c.args.commit.now.tree c.args.time c.args.model.now c.args.shown c.unwrap-timeline.result.now (rw c.timeline.ensures at found) in
+    let exact : c.time_of.result -ℤ c.args.shown.start ≡ local_time c.args.commit.now.tree c.args.time c.args.model.now c.args.shown = rw c.time_of.ensures.value (sym same) in
     let since = c.since.ensures in
     omega (arith, ints, since, exact)

@@ -2,9 +2,9 @@ use Rattle.std.proofs.Common.{◌≡◌, ◌+◌, List, ◌∷◌, drop, get_or,
 use Rattle.std.proofs.lemmas.List.{drop_more}
 use Rattle.commit_lock.specs.Seats.{SeatState}
 use Rattle.frame_exchange.specs.Sides.{CompositorState}
-use Rattle.tree_commit.specs.declared.runs.compositor_step.CompositorStep.{CompositorStep}
-use Rattle.tree_commit.specs.declared.runs.compositor_step.CompositorStep.TheVariants.{Pull}
-use Rattle.tree_commit.specs.Frames.{DrawnFrame}
+use Rattle.run_rules.specs.declared.compositor_step.CompositorStep.{CompositorStep}
+use Rattle.run_rules.specs.declared.compositor_step.CompositorStep.TheVariants.{Pull}
+use Rattle.run_rules.specs.Frames.{DrawnFrame}
 use Rattle.lane_threads.specs.Knowing.{IsNextOfCompositor, KnowsCompositor}
 use Rattle.lane_threads.proofs.CompositorLane.{knows-new_compositor}
 use Rattle.lane_threads.proofs.compositor_turns.compositor_lane.Goals as goal

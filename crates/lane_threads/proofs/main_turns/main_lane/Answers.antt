@@ -1,7 +1,7 @@
 use Rattle.std.proofs.Common.{ℕ, List, ap, sym, subst}
 use Rattle.commit_lock.specs.Seats.{SeatState}
 use Rattle.frame_exchange.specs.Sides.{MainState}
-use Rattle.tree_commit.specs.Views.{step_of}
+use Rattle.run_rules.specs.Views.{step_of}
 use Rattle.lane_threads.specs.Knowing.{IsNextOfMain, KnowsMain}
 use Rattle.lane_threads.proofs.MainLane.{knows-new_main}
 use Rattle.lane_threads.proofs.Outcomes.{step-at}

@@ -1,10 +1,11 @@
 use Rattle.std.proofs.Common.{◌≡◌, ℕ, List, length, map, ap, sym, subst, ◌∙◌, refl, rules}
 use Rattle.std.proofs.lemmas.List.{length-map}
+use Rattle.anim_names.specs.declared.version.Version.TheVariants.{One}
 use Rattle.anim_names.specs.declared.lane.Lane.{Lane}
-use Rattle.tree_commit.specs.declared.runs.main_step.MainStep.{MainStep}
-use Rattle.tree_commit.specs.declared.runs.compositor_step.CompositorStep.{CompositorStep}
-use Rattle.tree_commit.specs.Scripts.{IsWellFormed}
-use Rattle.tree_commit.specs.Views.{step_of}
+use Rattle.run_rules.specs.declared.main_step.MainStep.{MainStep}
+use Rattle.run_rules.specs.declared.compositor_step.CompositorStep.{CompositorStep}
+use Rattle.run_rules.specs.Scripts.{IsWellFormed}
+use Rattle.run_rules.specs.Views.{step_of}
 use Rattle.frame_script.specs.Scripts.{script_parts}
 use Rattle.script_gen.specs.Generated.{main_steps, compositor_steps, word_of_rounds, generated_script}
 use Rattle.script_gen.proofs.WellFormed.{well_formed}
@@ -12,7 +13,7 @@ use Rattle.script_gen.proofs.generated.generate.Goals as goal
 
 made : (n m k : ℕ) (main : List MainStep) (compositor : List CompositorStep) (word : List Lane)
     → map step_of main ≡ main_steps n → compositor ≡ compositor_steps n → m ≡ length main → k ≡ length compositor
-    → word ≡ word_of_rounds m k → script_parts (map step_of main) compositor word ≡ generated_script n
+    → word ≡ word_of_rounds m k → script_parts One (map step_of main) compositor word ≡ generated_script n
 unfolding generated_script
 made n m k main compositor word of_main of_compositor main_count compositor_count rounds =
     let a : m ≡ length (main_steps n) = main_count ∙ sym (length-map main step_of) ∙ ap length of_main in

@@ -1,6 +1,6 @@
 use Rattle.std.proofs.Common.{◌≡◌, ◌-◌, ◌++◌, map}
 use Rattle.std.specs.List.{flat_map, range_with_len}
-use Rattle.tree_commit.specs.Views.{step_of}
+use Rattle.run_rules.specs.Views.{step_of}
 use Rattle.script_gen.specs.Generated.{adding_steps}
 use Rattle.script_gen.proofs.main_steps.push_all_adding.Given as goal
 

@@ -1,6 +1,6 @@
 use Rattle.std.proofs.Common.{◌≡◌, ◌++◌, take, string_bytes}
 use Rattle.std.specs.List.{flat_map}
-use Rattle.tree_commit.specs.Views.{step_of}
+use Rattle.run_rules.specs.Views.{step_of}
 use Rattle.frame_script.specs.Printing.{step_lines}
 use Rattle.script_printer.proofs.printing.print_each.Given as goal
 

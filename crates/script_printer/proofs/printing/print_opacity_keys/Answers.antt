@@ -1,6 +1,6 @@
 use Rattle.std.proofs.Common.{ap, ◌∙◌, ◌++◌, string_bytes}
 use Rattle.frame_script.specs.Printing.{opacity_fields, key_line}
-use Rattle.script_printer.proofs.TextSteps.{one_more}
+use Rattle.script_fields.proofs.TextLemmas.{one_more}
 use Rattle.script_printer.proofs.printing.print_opacity_keys.Goals as goal
 
 pub loop-i-preserved : goal.loop-i-preserved

@@ -1,6 +1,6 @@
 use Rattle.std.proofs.Common.{◌++◌, ap, sym, ◌∙◌, string_bytes}
 use Rattle.std.proofs.lemmas.Result.{on_ok_weaker}
-use Rattle.tree_commit.specs.Views.{step_of}
+use Rattle.run_rules.specs.Views.{step_of}
 use Rattle.frame_script.specs.Printing.{step_lines}
 use Rattle.script_printer.proofs.TextSteps.{flat_map-map}
 use Rattle.script_printer.proofs.printing.print_steps.Goals as goal

@@ -1,7 +1,7 @@
 use Rattle.std.proofs.Common.{ap, ◌∙◌, ◌++◌, string_bytes}
 use Rattle.script_fields.specs.Printed.{list_fields}
 use Rattle.frame_script.specs.Printing.{key_line}
-use Rattle.script_printer.proofs.TextSteps.{one_more}
+use Rattle.script_fields.proofs.TextLemmas.{one_more}
 use Rattle.script_printer.proofs.printing.print_transform_keys.Goals as goal
 
 pub loop-i-preserved : goal.loop-i-preserved

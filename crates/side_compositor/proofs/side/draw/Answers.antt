@@ -3,7 +3,7 @@ use Rattle.std.specs.Prelude.{IfOk}
 use Rattle.anim_host.proofs.ShownLemmas.{frame-same}
 use Rattle.anim_host.specs.Hosting.{shown_in}
 use Rattle.tree_commit.specs.Trees.{Committed}
-use Rattle.tree_commit.specs.Frames.{DrawnFrame, frame_at, frame_by}
+use Rattle.run_rules.specs.Frames.{DrawnFrame, frame_at, frame_by}
 use Rattle.side_compositor.proofs.side.draw.Goals as goal
 
 pub returns-clause-frame : goal.returns-clause-frame

@@ -1,6 +1,6 @@
 use Rattle.std.proofs.Common.{◌≡◌, ◌+◌, ◌≤◌, drop, fold}
 use Rattle.frame_exchange.specs.Sides.{retired_by}
-use Rattle.tree_commit.specs.Runs.{tree_after_hearing}
+use Rattle.run_rules.specs.Runs.{tree_after_hearing}
 use Rattle.side_main.proofs.hearing.hear_all.Given as goal
 
 abbrev pub invariant-loop-event : goal.invariant-loop-event

@@ -1,6 +1,6 @@
 use Rattle.std.proofs.Common.{ap, ◌∙◌, map}
 use Rattle.std.specs.Slice.Iter.{iter_rest}
-use Rattle.tree_commit.specs.Views.{step_of}
+use Rattle.run_rules.specs.Views.{step_of}
 use Rattle.word_machine.proofs.Letters.{amid-compositor_may, amid-compositor_next, amid-compositor_rests, amid-main_may, amid-main_next, amid-main_rests, amid_beginning, amid_same, none-left}
 use Rattle.word_machine.proofs.replays.make_steps.Goals as goal
 use Rattle.word_machine.proofs.replays.make_steps.Goals.{in-Main+in-Some+in_ok-turn_of_main-in-Main, in-Main+in_default, in-Compositor+in-Some-next+in_ok-turn_of_compositor-in-Compositor, in-Compositor+in_default-next}

@@ -1,6 +1,6 @@
 use Rattle.std.proofs.Common.{rules, subst, sym}
 use Rattle.indexmap.proofs.CallerLemmas.{filter-RetainsPairs}
-use Rattle.tree_commit.specs.Follows.{TreesAgree}
+use Rattle.run_rules.specs.Follows.{TreesAgree}
 use Rattle.tree_commit.specs.Tables.{HasAllTimelines}
 use Rattle.tree_commit.specs.Trees.{Committed}
 use Rattle.active_tree.proofs.KeptLemmas.{kept-after}

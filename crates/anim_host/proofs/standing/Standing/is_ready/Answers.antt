@@ -12,11 +12,11 @@ returns-in-None c =
 
 pub returns-in-Some : goal.returns-in-Some
 returns-in-Some c =
-    let holds = rw (← c.self.view_is) at c.requires.holds in
+    let pending_has = rw (← c.self.view_is) at c.requires.pending in
     let settled = rw (← c.self.view_is) at c.requires.settled in
     rw (← c.self.view_is)
     (c.ready.ensures
-    ∙ ap (effect.is_ready c.in-Some.row c.self.inside.elements) holds
+    ∙ ap (effect.is_ready c.in-Some.row c.self.inside.elements) pending_has
     ∙ row-ready c.self.inside.elements c.self.inside.active.value (option_map (λ commit. commit.value) c.self.inside.pending) c.self.inside.marks.marks c.args.group
     c.self.invariant.of_elements c.self.invariant.of_blocks c.self.invariant.fits settled c.in-Some.row
     (sym (c.self.invariant.of_groups c.args.group) ∙ sym c.row.ensures ∙ c.in-Some.is))

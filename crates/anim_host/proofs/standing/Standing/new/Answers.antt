@@ -1,7 +1,7 @@
 use Rattle.std.proofs.Common.{◌≡◌, [], true, false, ap, sym, ◌∙◌}
 use Rattle.std.specs.Prelude.{option_map}
 use Rattle.anim_names.specs.declared.lane.Tree.TheVariants.{Active, Pending}
-use Rattle.host_tables.specs.Blocks.{is_held_by}
+use Rattle.element_anims.specs.Rows.{is_blocked_by}
 use Rattle.host_tables.specs.MarkLists.{Marked}
 use Rattle.host_tables.specs.Rows.{marked_row, says_over}
 use Rattle.anim_host.proofs.FitLemmas.{fits-nothing}
@@ -17,7 +17,7 @@ invariant_of-result c =
       of_groups = λ g. c.new-3.ensures g ∙ sym (group-nowhere [] g);
       roomy = tt;
       of_elements = record { of_active = λ e. c.in_ok-new.ensures.absent Active e; of_pending = λ e. c.in_ok-new.ensures.absent Pending e };
-      of_blocks = λ g e p. ap (is_held_by g) (c.in_ok-new.ensures.free e p);
+      of_blocks = λ g e p. ap (is_blocked_by g) (c.in_ok-new.ensures.free e p);
       finishes = λ id ended alive. cc;
       fits = fits-nothing;
       follows = tt;

@@ -1,7 +1,7 @@
 use Rattle.std.proofs.Common.{◌≡◌, ◌≤◌, length, List, [], ℕ, None, Option, sym, ap, subst, ◌∙◌}
 use Rattle.std.specs.Prelude.{option_map, IfSome}
 use Rattle.tree_commit.specs.Trees.{Committed}
-use Rattle.tree_commit.specs.Follows.{Follows}
+use Rattle.run_rules.specs.Follows.{Follows}
 use Rattle.keyframe_model.specs.Models.{Spec}
 use Rattle.host_tables.specs.Elements.{PresenceStands}
 use Rattle.host_tables.specs.MarkLists.{Marked}

@@ -1,6 +1,6 @@
 use Rattle.std.proofs.Common.{◌≡◌, None, true, false, ap, sym, ◌∙◌}
 use Rattle.std.specs.Prelude.{option_map, if◌then◌else◌}
-use Rattle.tree_commit.specs.Frames.{shown_by}
+use Rattle.run_rules.specs.Frames.{shown_by}
 use Rattle.host_tables.specs.Rows.{marked_row}
 use Rattle.host_tables.specs.States.{is_among, models_of, shown_at}
 use Rattle.host_tables.proofs.MarkedLemmas.{marked-shown}

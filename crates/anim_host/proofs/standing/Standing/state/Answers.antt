@@ -1,7 +1,7 @@
 use Rattle.std.proofs.Common.{◌≤◌, Option, ap, sym, subst, ◌∙◌}
 use Rattle.std.specs.Prelude.{unsigned_abs, IfSome}
 use Rattle.anim_timeline.specs.declared.TheConstants.{LAST_TIME}
-use Rattle.tree_commit.specs.declared.runs.shown.Shown.{Shown}
+use Rattle.tree_commit.specs.declared.shown.Shown.{Shown}
 use Rattle.host_tables.specs.States.{shown_at}
 use Rattle.keyframe_effect.specs.States.{is_ended, is_unfinished}
 use Rattle.host_tables.proofs.MarkedLemmas.{marked-ended, marked-runs, marked-shown}

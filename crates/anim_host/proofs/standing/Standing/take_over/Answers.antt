@@ -4,10 +4,10 @@ use Rattle.std.proofs.lemmas.Option.{same_Some}
 use Rattle.std.specs.declared.alloc.Global.{Global}
 use Rattle.std.specs.declared.sync.Arc.{Arc}
 use Rattle.tree_commit.specs.Trees.{Committed, has_element}
-use Rattle.tree_commit.specs.Follows.{Follows}
-use Rattle.tree_commit.specs.declared.runs.mark.Mark.{Mark}
+use Rattle.run_rules.specs.Follows.{Follows}
+use Rattle.run_rules.specs.declared.mark.Mark.{Mark}
 use Rattle.host_tables.specs.Elements.{PresenceStands}
-use Rattle.anim_host.specs.Fits.{IsThereIfRunning}
+use Rattle.anim_host.specs.Fits.{IsThereIfUnfinished}
 use Rattle.host_tables.specs.Groups.{group_row_of}
 use Rattle.host_tables.specs.Rows.{marked_at, row_at}
 use Rattle.host_tables.specs.States.{models_of, row_for}
@@ -42,7 +42,7 @@ invariant_of-self c =
     let same : new ≡ c.args.commit.now = same_Some new c.args.commit.now (sym is_pending ∙ given) in
     let follows : Follows active.tree new.tree marks = subst (λ (o : Option Committed). IfSome o (λ commit. Follows active.tree commit.tree marks)) is_pending before.follows in
     let shown : PresenceStands c.self.inside.elements active (Some new) = subst (λ (o : Option Committed). PresenceStands c.self.inside.elements active o) is_pending before.of_elements in
-    let running = rw (← c.self.view_is) at c.requires.running in
+    let unfinished = rw (← c.self.view_is) at c.requires.unfinished in
     let all : HasAllTimelines active.tree = rw c.deref.ensures at c.model_count.ensures.timelines_there in
     let stand : (id : ℕ) → marked_at c.self.inside.rows id ≡ row_for active.tree.models new.tree.models marks id = λ (id : ℕ).
     before.of_rows id ∙ ap (λ (o : Option Committed). row_for active.tree.models (models_of o) marks id) is_pending in
@@ -77,6 +77,6 @@ invariant_of-self c =
       finishes = before.finishes;
       fits =
           fits-over active.tree new.tree marks follows before.fits
-          (λ (mark : Mark) there. subst (λ (m : Committed). IsThereIfRunning m.tree.models marks mark) (sym same) (running mark there));
+          (λ (mark : Mark) there. subst (λ (m : Committed). IsThereIfUnfinished m.tree.models marks mark) (sym same) (unfinished mark there));
       follows = tt;
     })

@@ -1,13 +1,11 @@
-use Rattle.std.proofs.Common.{rules, ◌≡◌, refl, sym, ap, ◌∙◌, subst, Some}
+use Rattle.std.proofs.Common.{rules, refl, sym, ap, ◌∙◌, subst}
+use Rattle.std.proofs.lemmas.Option.{same_Some}
 use mathlib.Core.Option.{some-injective}
 use Rattle.anim_names.specs.Lists.{BeginsWith}
 use Rattle.commit_lock.specs.Views.{other_lane}
 use Rattle.commit_lock.specs.Seats.{SeatState}
 use Rattle.commit_lock.proofs.Ends.{joins, Closes, closes}
 use Rattle.commit_lock.proofs.lock.CommitLock.close.Goals as goal
-
-same_some : {A : Type 0} (x y : A) → Some x ≡ Some y → x ≡ y
-same_some x y e = cc
 
 pub join_seat-requires : goal.join_seat-requires
 join_seat-requires g c =
@@ -45,7 +43,7 @@ returns g c =
     let me = ap (λ m. m.0) c.join_seat.ensures.2 in
     let value = closes journal_of g.V.Journaled.subject _ _ _ c.main.inside.table_seat.me.0 c.compositor.inside.table_seat.me.0 _ _ me first main.stage_is compositor.stage_is c.close_with-closed.ensures.values.2 in
     let taken = some-injective _ _ (sym value.1 ∙ c.take-value.ensures.value) ∙ c.unwrap.ensures in
-    let out = subst (Closes journal_of g.V.Journaled.subject c.main.inside.table_seat.me.0 c.compositor.inside.table_seat.me.0) (same_some _ _ taken) value.2 in
+    let out = subst (Closes journal_of g.V.Journaled.subject c.main.inside.table_seat.me.0 c.compositor.inside.table_seat.me.0) (same_Some _ _ taken) value.2 in
     record {
       main_subject = out.about.0 ∙ ap (λ s. s.subject) c.main.view_is;
       compositor_subject = out.about.1 ∙ ap (λ s. s.subject) c.compositor.view_is;

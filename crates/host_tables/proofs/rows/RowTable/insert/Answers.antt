@@ -11,7 +11,7 @@ invariant_of-self c =
     let ok : IsOk c.insert.result = c.insert.ensures.succeeds (omega arith) in
     let put = from_ok c.insert.result ok c.insert.ensures.updates in
     let up = c.insert_reserved-key.ensures.updates in (
-      lead-insert c.self.inside.rows.slots c.insert_reserved-key.new.self.slots c.self.inside.places.entries c.insert.new.self.entries
+      lead-insert c.self.inside.rows.slots c.insert_reserved-key.new.self.slots c.self.inside.keys.entries c.insert.new.self.entries
           c.insert_reserved-key.result c.args.row c.self.invariant.0 c.insert_reserved-key.ensures.was_vacant up.changed up.others put.0,
       (let had = c.self.invariant.1 in let len = c.insert_reserved-key.ensures.len in let cap = c.insert_reserved-key.ensures.capacity in omega arith),
       (let spare = c.insert.ensures.spare in omega arith),
@@ -25,6 +25,6 @@ returns-clause-others c =
     let put = from_ok c.insert.result ok c.insert.ensures.updates in
     let up = c.insert_reserved-key.ensures.updates in
     λ id other.
-    others-insert c.self.inside.rows.slots c.insert_reserved-key.new.self.slots c.self.inside.places.entries c.insert.new.self.entries
+    others-insert c.self.inside.rows.slots c.insert_reserved-key.new.self.slots c.self.inside.keys.entries c.insert.new.self.entries
     c.insert_reserved-key.result c.args.row c.self.invariant.0 c.insert_reserved-key.ensures.was_vacant up.others put.0 id other
     ∙ ap (λ (r : Rows). row_at r id) c.self.view_is

@@ -7,9 +7,9 @@ use Rattle.host_tables.proofs.rows.RowTable.reserve.Goals as goal
 
 pub invariant_of-self-2 : goal.invariant_of-self-2
 invariant_of-self-2 c = (
-  λ id place found.
-      ap (λ s. option_map (λ (row : ModelRow). row.model) (slot_at s.slots place)) c.reserve.ensures.rest_kept
-      ∙ c.self.invariant.0 id place (sym (c.reserve-2.ensures.entries.2 id) ∙ found),
+  λ id key found.
+      ap (λ s. option_map (λ (row : ModelRow). row.model) (slot_at s.slots key)) c.reserve.ensures.rest_kept
+      ∙ c.self.invariant.0 id key (sym (c.reserve-2.ensures.entries.2 id) ∙ found),
   c.in_ok-reserve.ensures.room,
   c.in_ok-reserve-2.ensures.ok,
 )

@@ -1,7 +1,7 @@
 use Rattle.std.proofs.Common.{Some, None, if◌then◌else◌, sym, ap, ◌∙◌}
 use Rattle.anim_delegate.specs.Table.{is_retire}
 use Rattle.tree_commit.specs.Edits.{without_model}
-use Rattle.tree_commit.specs.Runs.{model_of_event}
+use Rattle.run_rules.specs.Runs.{model_of_event}
 use Rattle.main_tree.proofs.HearLemmas.{heard, retired, removed, is_there, may_go}
 use Rattle.main_tree.proofs.tree.MainTree.hear.Goals as goal
 
